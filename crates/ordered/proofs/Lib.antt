@@ -1,0 +1,4 @@
+pub mod Lexes
+pub mod Scans
+pub mod Shifts
+pub mod Orders
