@@ -1,0 +1,26 @@
+-- What a profile means: a list of slots, each holding one rule or nothing, and a start, which is a state and the
+-- symbol that is the whole stack. Whoever asks a profile learns this and nothing else.
+use Prim.Native.Nat.{ℕ, _<_, _≤_}
+use mathlib.Core.List.{List, [], _∷_}
+use lib.ListN.{length}
+use Rattle.std.specs.declared.option.Option.{Option}
+use Rattle.std.specs.declared.option.Option.the-variants.{Some, None}
+use Rattle.profile.specs.declared.Kind.{Kind}
+use Rattle.profile.specs.declared.Rule.{Rule}
+use Rattle.profile.specs.Rules.{Lawful-rule}
+
+-- an empty slot is lawful, another one if its rule is
+abbrev pub Lawful-slot : (ℕ → Option Kind) → Option Rule → Type 0
+Lawful-slot kinds None = Unit {0}
+Lawful-slot kinds (Some r) = Lawful-rule kinds r
+
+abbrev pub Lawful-slots : (ℕ → Option Kind) → List (Option Rule) → Type 0
+Lawful-slots kinds [] = Unit {0}
+Lawful-slots kinds (s ∷ ss) = Lawful-slot kinds s × Lawful-slots kinds ss
+
+-- the law of a profile: at most 96 slots, every rule lawful, the start in range
+pub record Lawful-profile (kinds : ℕ → Option Kind) (slots : List (Option Rule)) (start : ℕ × ℕ) : Type 0 where
+  pub few : length slots ≤ 96
+  pub each : Lawful-slots kinds slots
+  pub state : start .0 < 8
+  pub symbol : start .1 < 16
