@@ -1,0 +1,5 @@
+-- Texts: their faults, their words, their sections, the profile they spell, and what is told of them.
+pub mod Faults
+pub mod Words
+pub mod Sections
+pub mod ProfileText
