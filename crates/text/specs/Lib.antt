@@ -3,3 +3,5 @@ pub mod Faults
 pub mod Words
 pub mod Sections
 pub mod ProfileText
+pub mod Writing
+pub mod Report

@@ -4,5 +4,7 @@ pub mod fault;
 pub mod names;
 pub mod profiles;
 pub mod reader;
+pub mod report;
 pub mod sections;
 pub mod words;
+pub mod write;

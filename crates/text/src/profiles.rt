@@ -70,7 +70,7 @@ fn symbol_if(reader: &mut Reader<'_>, used: bool, symbols: &[&[u8]]) -> Result<u
 }
 
 // How many symbols a rule for an event lists.
-fn used_by(event: u8) -> usize
+pub(crate) fn used_by(event: u8) -> usize
     ensures { λ r. ⌜ r ≡ used-by (event-kind event) ⌝ }
 {
     match kind_of(event) {
