@@ -18,13 +18,13 @@ use crate::words::Due;
 
 // Up to 16 names, each a part of the text; the first `count` places are held.
 #[derive(Clone, Copy)]
-pub struct Names<'a> {
-    pub list: [&'a [u8]; 16],
-    pub count: usize,
+pub(crate) struct Names<'a> {
+    pub(crate) list: [&'a [u8]; 16],
+    pub(crate) count: usize,
 }
 
 // The names of the events, from event 0 on.
-pub fn event_list() -> [&'static [u8]; 12]
+pub(crate) fn event_list() -> [&'static [u8]; 12]
     ensures names { λ r. ⌜ texts r ≡ event-names ⌝ }
     ensures count { λ r. ⌜ length r ≡ 12 ⌝ }
 {
@@ -45,7 +45,7 @@ pub fn event_list() -> [&'static [u8]; 12]
 }
 
 // The number of a name: its position among the names.
-pub fn position(names: &[&[u8]], name: &[u8]) -> Option<usize>
+pub(crate) fn position(names: &[&[u8]], name: &[u8]) -> Option<usize>
     ensures value { λ r. ⌜ r ≡ index-of (texts (now (names .entry))) (now (name .entry)) ⌝ }
     ensures bound { λ r. ⌜ found r (λ i. i < length (now (names .entry))) ⌝ }
 {

@@ -13,7 +13,7 @@ use crate::words::Due;
 use crate::words::Word;
 
 // Whether two words are spelled alike.
-pub fn alike(a: &[u8], b: &[u8]) -> bool
+pub(crate) fn alike(a: &[u8], b: &[u8]) -> bool
     ensures { λ r. ⌜ r ≡ sameBytes (now (a .entry)) (now (b .entry)) ⌝ }
 {
     a == b
@@ -26,7 +26,7 @@ fn is_digit(b: u8) -> bool
 }
 
 // The number that one to four digits spell, with no 0 in front of another.
-pub fn plain_number(bytes: &[u8]) -> Option<u16>
+pub(crate) fn plain_number(bytes: &[u8]) -> Option<u16>
     ensures { λ r. ⌜ r ≡ plain-number (now (bytes .entry)) ⌝ }
 {
     if bytes.len() == 0 || bytes.len() > 4 {
@@ -48,7 +48,7 @@ pub fn plain_number(bytes: &[u8]) -> Option<u16>
 }
 
 // The next word, which has to be there.
-pub fn word_due<'a>(reader: &mut Reader<'a>, due: Due) -> Result<Word<'a>, Fault>
+pub(crate) fn word_due<'a>(reader: &mut Reader<'a>, due: Due) -> Result<Word<'a>, Fault>
     ensures value { λ r. ⌜ taken r (now (reader .exit)) ≡ word-due due (rest-of (now (reader .entry))) ⌝ }
     ensures end { λ _. ⌜ text-end (rest-of (now (reader .exit))) ≡ text-end (rest-of (now (reader .entry))) ⌝ }
 {
@@ -60,7 +60,7 @@ pub fn word_due<'a>(reader: &mut Reader<'a>, due: Due) -> Result<Word<'a>, Fault
 }
 
 // Takes the keyword that is due.
-pub fn keyword(reader: &mut Reader<'_>, wanted: &[u8]) -> Result<(), Fault>
+pub(crate) fn keyword(reader: &mut Reader<'_>, wanted: &[u8]) -> Result<(), Fault>
     ensures value { λ r. ⌜ stepped r (now (reader .exit)) ≡ read-keyword (now (wanted .entry)) (rest-of (now (reader .entry))) ⌝ }
     ensures end { λ _. ⌜ text-end (rest-of (now (reader .exit))) ≡ text-end (rest-of (now (reader .entry))) ⌝ }
 {
@@ -72,7 +72,7 @@ pub fn keyword(reader: &mut Reader<'_>, wanted: &[u8]) -> Result<(), Fault>
 }
 
 // Takes a plain number from `lo` to `hi`.
-pub fn number(reader: &mut Reader<'_>, lo: u16, hi: u16) -> Result<u16, Fault>
+pub(crate) fn number(reader: &mut Reader<'_>, lo: u16, hi: u16) -> Result<u16, Fault>
     ensures value { λ r. ⌜ stepped r (now (reader .exit)) ≡ read-number lo hi (rest-of (now (reader .entry))) ⌝ }
     ensures range { λ r. ⌜ made r (λ n. (lo ≤ n) × (n ≤ hi)) ⌝ }
     ensures end { λ _. ⌜ text-end (rest-of (now (reader .exit))) ≡ text-end (rest-of (now (reader .entry))) ⌝ }
@@ -85,7 +85,7 @@ pub fn number(reader: &mut Reader<'_>, lo: u16, hi: u16) -> Result<u16, Fault>
 }
 
 // Sees that no word is left.
-pub fn finish(reader: &mut Reader<'_>) -> Result<(), Fault>
+pub(crate) fn finish(reader: &mut Reader<'_>) -> Result<(), Fault>
     ensures { λ r. ⌜ r ≡ read-end (rest-of (now (reader .entry))) ⌝ }
 {
     match reader.next(Due::Keyword)? {

@@ -26,7 +26,7 @@ pub enum Word<'a> {
 }
 
 impl<'a> Word<'a> {
-    pub fn new(due: Due, bytes: &'a [u8], place: Place) -> Word<'a>
+    pub(crate) fn new(due: Due, bytes: &'a [u8], place: Place) -> Word<'a>
         ensures { λ r. ⌜ spelled r ≡ record { kind = due; bytes = now (bytes .entry); place = place } ⌝ }
     {
         match due {
