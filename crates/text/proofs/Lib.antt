@@ -4,3 +4,11 @@ pub mod RuleSteps
 pub mod Overlays
 pub mod EventNames
 pub mod SlotSteps
+pub mod Spacing
+pub mod Parts
+pub mod PlainNumbers
+pub mod Dues
+pub mod Naming
+pub mod Ruling
+pub mod Listing
+pub mod Saying

@@ -31,7 +31,7 @@ use Rattle.text.specs.Words.{Rest, Step}
 use Rattle.text.specs.Sections.{and-then}
 use Rattle.text.specs.ProfileText.{used-by, read-rule, more-rules}
 
-kind-there : (e : ℕ) → e < 12 → (k : Kind) × (event-kind e ≡ Some k)
+pub kind-there : (e : ℕ) → e < 12 → (k : Kind) × (event-kind e ≡ Some k)
 kind-there e h = at (ltb e 4) (ltb e 8) (ltb e 12) (lt-ltb e 12 h) where
   at : (a b d : Bool) → d ≡ true → (k : Kind) × (cond a (Some kind.Open) (cond b (Some kind.Step) (cond d (Some kind.Close) None)) ≡ Some k)
   at true b d t = (kind.Open, refl)

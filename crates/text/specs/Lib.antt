@@ -3,5 +3,6 @@ pub mod Faults
 pub mod Words
 pub mod Sections
 pub mod ProfileText
+pub mod Grammar
 pub mod Writing
 pub mod Report

@@ -2,7 +2,7 @@
 use mathlib.Core.Path.{_≡_}
 use mathlib.Core.Bool.{Bool, true, false, cond, _&&_, _||_}
 use mathlib.Core.List.{List, [], _∷_}
-use Prim.Native.Nat.{ℕ, _+_, _-_}
+use Prim.Native.Nat.{ℕ, _+_, _-_, _≤_}
 use lib.Dec.{leb, eqb}
 use lib.ListN.{length, take, drop}
 use denote.Ref.{RefT}
@@ -79,6 +79,13 @@ next-from k (b ∷ bs) p = cond (is-blank b) (next-from k bs (p + 1)) (found (wo
 abbrev pub next-word : Due → Rest → Result (Option (Step Spelled)) WordFault
 next-word k s = next-from k (s .bytes) (s .at)
 
+-- A word is the part of the text that begins at its place, and what is left begins right after it.
+pub record Part-of (s : Rest) (w : Step Spelled) : Type 0 where
+  pub from : s .at ≤ w .value .place .offset
+  pub part : w .value .bytes ≡ take (length (w .value .bytes)) (drop (w .value .place .offset - s .at) (s .bytes))
+  pub after : w .rest .at ≡ w .value .place .offset + length (w .value .bytes)
+  pub rest : w .rest .bytes ≡ drop (w .rest .at - s .at) (s .bytes)
+
 -- a text of over 20,000 bytes is not read at all
 abbrev pub length-judged : List ℕ → Result (Unit {0}) WordFault
 length-judged t = cond (leb (length t) 20000) (Ok tt) (Err (word-fault TextTooLong 0))
@@ -101,3 +108,8 @@ seen (Err f) r = Err f
 abbrev pub parted : Result (Word × RefT (List ℕ)) WordFault → ℕ → Result (Step Spelled) WordFault
 parted (Ok w) p = Ok (record { value = spelled (w .0); rest = record { bytes = w .1 .now; at = p + length (spelled (w .0) .bytes) } })
 parted (Err f) p = Err f
+
+abbrev pub Word-is-part : Result (Option Word) WordFault → Rest → Reader → Type 0
+Word-is-part (Ok None) s r = Unit {0}
+Word-is-part (Ok (Some w)) s r = Part-of s (record { value = spelled w; rest = rest-of r })
+Word-is-part (Err f) s r = Unit {0}

@@ -10,6 +10,7 @@ ghost use Rattle.profile.specs.Rules.{lawful-rule};
 ghost use Rattle.profile.specs.Tables.{table-rules, table-start};
 ghost use Rattle.text.specs.Words.{rest-of};
 ghost use Rattle.text.specs.Sections.{stepped};
+ghost use Rattle.text.specs.Grammar.{Judged, One-reading};
 ghost use Rattle.text.specs.ProfileText.{texts, event-names, used-by, read-index, read-mode, read-symbol-if, read-rule, more-rules, read-rules, read-start, read-body, read-sections, read-profile, listed, read-as, Read-into};
 use crate::fault::Fault;
 use crate::fault::FaultFromWord;
@@ -189,12 +190,27 @@ fn sections(reader: &mut Reader<'_>) -> Result<Table, Fault>
     )
 }
 
-// Reads a profile text into a table that the caller holds. A fault leaves the table as it was.
-pub fn read_profile(text: &[u8], profile: &mut Table) -> Result<(), Fault>
+// Reads a text into a table, by the definition.
+fn read_into(text: &[u8], profile: &mut Table) -> Result<(), Fault>
     ensures { λ r. ⌜ Read-into (now (text .entry)) r (now (profile .entry)) (now (profile .exit)) ⌝ }
 {
     judge_length(text)?;
     let mut reader = Reader::new(text);
     *profile = sections(&mut reader)?;
     Ok(())
+}
+
+// Reads a profile text into a table that the caller holds. A fault leaves the table as it was.
+pub fn read_profile(text: &[u8], profile: &mut Table) -> Result<(), Fault>
+    ensures value { λ r. ⌜ Read-into (now (text .entry)) r (now (profile .entry)) (now (profile .exit)) ⌝ }
+    ensures grammar { λ r. ⌜ Judged (now (text .entry)) r (now (profile .exit)) ⌝ }
+{
+    read_into(text, profile)
+}
+
+// No text has two readings.
+pub fn texts_have_one_reading() -> u8
+    ensures { λ _. ⌜ One-reading ⌝ }
+{
+    0
 }

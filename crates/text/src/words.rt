@@ -3,7 +3,7 @@ ghost use mathlib.Core.Path.{_≡_};
 ghost use Prim.Native.Nat.{_+_, _^_, _<_, _≤_};
 ghost use lib.ListN.{length};
 ghost use Rattle.std.specs.Vec.{made};
-ghost use Rattle.text.specs.Words.{is-blank, is-visible, run-end, word-at, next-word, begun, length-judged, rest-of, spelled, seen, parted};
+ghost use Rattle.text.specs.Words.{is-blank, is-visible, run-end, word-at, next-word, begun, length-judged, rest-of, spelled, seen, parted, Word-is-part};
 use crate::fault::Place;
 use crate::fault::WordCause;
 use crate::fault::WordFault;
@@ -141,8 +141,8 @@ impl<'a> Reader<'a> {
         }
     }
 
-    // The next word, read as what is due, or nothing where only blanks are left.
-    pub fn next(&mut self, due: Due) -> Result<Option<Word<'a>>, WordFault>
+    // Skips blanks and takes the next word, if there is one.
+    fn advance(&mut self, due: Due) -> Result<Option<Word<'a>>, WordFault>
         ensures value { λ r. ⌜ seen r (now (self .exit)) ≡ next-word due (rest-of (now (self .entry))) ⌝ }
         ensures end { λ _. ⌜ now (self .exit) .at + length (now (now (self .exit) .rest)) ≡ now (self .entry) .at + length (now (now (self .entry) .rest)) ⌝ }
     {
@@ -157,5 +157,14 @@ impl<'a> Reader<'a> {
             self.rest = more;
         }
         Ok(None)
+    }
+
+    // The next word, read as what is due, or nothing where only blanks are left.
+    pub fn next(&mut self, due: Due) -> Result<Option<Word<'a>>, WordFault>
+        ensures value { λ r. ⌜ seen r (now (self .exit)) ≡ next-word due (rest-of (now (self .entry))) ⌝ }
+        ensures part { λ r. ⌜ Word-is-part r (rest-of (now (self .entry))) (now (self .exit)) ⌝ }
+        ensures end { λ _. ⌜ now (self .exit) .at + length (now (now (self .exit) .rest)) ≡ now (self .entry) .at + length (now (now (self .entry) .rest)) ⌝ }
+    {
+        self.advance(due)
     }
 }

@@ -1,12 +1,10 @@
-use borrow.Author.Needs.{needs}
-use Rattle.text.proofs.Steps.{next-more, next-here, next-none}
+use Rattle.text.specs.Words.{rest-of}
+use Rattle.text.proofs.Parts.{word-is-part}
 use Rattle.text.proofs.reader.Reader.next.Needs as need
 
-pub returns-then-not-is-blank : need.returns-then-not-is-blank
-returns-then-not-is-blank c = search (needs, next-here)
-
-pub loop-self-again : need.loop-self-again
-loop-self-again c = search (needs, next-more)
-
 pub returns : need.returns
-returns c = search (needs, next-none)
+returns c = record {
+  value = c .advance .ensures .value;
+  part = word-is-part (c .args .due) (c .advance .result) (rest-of (c .args .self .now)) (c .advance .last .self) (c .advance .ensures .value);
+  end = c .advance .ensures .end;
+}
