@@ -12,3 +12,4 @@ pub mod Naming
 pub mod Ruling
 pub mod Listing
 pub mod Saying
+pub mod Standing

@@ -24,10 +24,10 @@ pub impossible : {P : Type 0} → _≡_ {A = ℕ} 0 1 → P
 impossible z = absurd (omega arith)
 
 -- the tests say what the grammar says
-blank-from-test : (b : ℕ) → is-blank b ≡ true → Blank b
+pub blank-from-test : (b : ℕ) → is-blank b ≡ true → Blank b
 blank-from-test b h = elim (or-cases _ _ h) [ inl e ↦ inl (eqb-true b 32 e) | inr e ↦ inr (eqb-true b 10 e) ]
 
-test-from-blank : (b : ℕ) → Blank b → is-blank b ≡ true
+pub test-from-blank : (b : ℕ) → Blank b → is-blank b ≡ true
 test-from-blank b (inl e) = or-left _ _ (eq-eqb b 32 e)
 test-from-blank b (inr e) = or-right _ _ (eq-eqb b 10 e)
 
@@ -147,7 +147,7 @@ cut-word k b t p n st r nb some true short h ws s =
     (r .after)
     (subst (λ (l : List ℕ). Spaced l ws) (sym back) s))
 
-run-some : (b : ℕ) (t : List ℕ) (p n : ℕ) → is-blank b ≡ false → run-end (b ∷ t) p ≡ Ok n → 1 ≤ n - p
+pub run-some : (b : ℕ) (t : List ℕ) (p n : ℕ) → is-blank b ≡ false → run-end (b ∷ t) p ≡ Ok n → 1 ≤ n - p
 run-some b t p n nb h =
     elim (cases-bool (is-visible b)) [
       | inl seen ↦ (let r = run-of t (p + 1) n (sym (cond-true _ _ _ seen) ∙ sym (cond-false _ _ _ nb) ∙ h) in omega (arith, r .grows))

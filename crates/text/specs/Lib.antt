@@ -4,5 +4,6 @@ pub mod Words
 pub mod Sections
 pub mod ProfileText
 pub mod Grammar
+pub mod Places
 pub mod Writing
 pub mod Report

@@ -11,6 +11,7 @@ ghost use Rattle.profile.specs.Tables.{table-rules, table-start};
 ghost use Rattle.text.specs.Words.{rest-of};
 ghost use Rattle.text.specs.Sections.{stepped};
 ghost use Rattle.text.specs.Grammar.{Judged, One-reading};
+ghost use Rattle.text.specs.Places.{Fault-stands};
 ghost use Rattle.text.specs.ProfileText.{texts, event-names, used-by, read-index, read-mode, read-symbol-if, read-rule, more-rules, read-rules, read-start, read-body, read-sections, read-profile, listed, read-as, Read-into};
 use crate::fault::Fault;
 use crate::fault::FaultFromWord;
@@ -204,6 +205,7 @@ fn read_into(text: &[u8], profile: &mut Table) -> Result<(), Fault>
 pub fn read_profile(text: &[u8], profile: &mut Table) -> Result<(), Fault>
     ensures value { λ r. ⌜ Read-into (now (text .entry)) r (now (profile .entry)) (now (profile .exit)) ⌝ }
     ensures grammar { λ r. ⌜ Judged (now (text .entry)) r (now (profile .exit)) ⌝ }
+    ensures place { λ r. ⌜ Fault-stands (now (text .entry)) r ⌝ }
 {
     read_into(text, profile)
 }
