@@ -1,0 +1,5 @@
+pub mod Order
+pub mod Sets
+pub mod Gathering
+pub mod Sound
+pub mod Defence
