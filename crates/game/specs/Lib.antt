@@ -3,3 +3,4 @@ pub mod Members
 pub mod Systems
 pub mod Game
 pub mod Rows
+pub mod Computed
