@@ -6,3 +6,4 @@ pub mod Defence
 pub mod Testing
 pub mod Relating
 pub mod Completing
+pub mod Transitions

@@ -4,3 +4,4 @@ pub mod Systems
 pub mod Game
 pub mod Rows
 pub mod Computed
+pub mod Theorems
