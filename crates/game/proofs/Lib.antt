@@ -7,3 +7,6 @@ pub mod Testing
 pub mod Relating
 pub mod Completing
 pub mod Transitions
+pub mod Deciding
+pub mod Counting
+pub mod Slots
