@@ -5,6 +5,7 @@ ghost use Prim.Native.Nat.{min};
 ghost use Rattle.game.specs.Members.{top-of, below-top, member-numbers, member-le, members-of};
 use ordered::Keyed;
 
+pub mod relation;
 pub mod theorems;
 
 // A number of the station's beside one of the manual's: two states, or two stack symbols.
