@@ -10,3 +10,4 @@ pub mod Transitions
 pub mod Deciding
 pub mod Counting
 pub mod Slots
+pub mod Samples

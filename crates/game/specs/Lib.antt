@@ -5,3 +5,4 @@ pub mod Game
 pub mod Rows
 pub mod Computed
 pub mod Theorems
+pub mod Examples

@@ -15,7 +15,7 @@ use Rattle.game.specs.declared.Head.{Head}
 use Rattle.game.specs.declared.Member.{Member}
 use Rattle.game.specs.Members.{Attack-row, top-of, below-top, member-le}
 use Rattle.game.specs.Systems.{Exactly-when, Configuration, Refinement, induced, Same-rules}
-use Rattle.game.specs.Game.{Position, Side, by-station, by-manual, after, outcome, Attack, Reply, Wins, Attacker-wins, Modal-refinement}
+use Rattle.game.specs.Game.{Position, Side, by-station, by-manual, after, outcome, Attack, Reply, Wins, Attacker-wins, Defends, Modal-refinement}
 use Rattle.game.specs.Rows.{member-on, head-on, starts, leads-to, entered, with-pairs, Joins, Called-for, Closed, Derivable, rounds, Means, Means-within, Fit, refuting}
 use Rattle.game.specs.Computed.{called-for, joined}
 
@@ -44,6 +44,26 @@ Modal-refinement-is-refinement =
     (kinds : ℕ → Option Kind) (station manual : List (Option Rule)) (R : Position → Bool) →
     Exactly-when (Modal-refinement kinds station manual R)
     (Refinement (induced kinds station) (induced kinds manual) (λ c d. R (record { station = c; manual = d }) ≡ true))
+
+-- The same for a relation of any propositions: that every attack from where it holds has a reply to where it holds is
+-- the same as that it is a refinement between the two induced systems.
+abbrev pub Defending-is-refining : (Position → Type 0) → Type 0
+Defending-is-refining holds =
+    (kinds : ℕ → Option Kind) (station manual : List (Option Rule)) →
+    Exactly-when (Defends kinds station manual holds)
+    (Refinement (induced kinds station) (induced kinds manual) (λ c d. holds (record { station = c; manual = d })))
+
+-- Where a refinement holds, the attacker does not win.
+abbrev pub Refinement-keeps-attacker-from-winning : (Position → Type 0) → Type 0
+Refinement-keeps-attacker-from-winning holds =
+    (kinds : ℕ → Option Kind) (station manual : List (Option Rule)) →
+    Refinement (induced kinds station) (induced kinds manual) (λ c d. holds (record { station = c; manual = d })) →
+    (pos : Position) → holds pos → Attacker-wins kinds station manual pos → ⊥
+
+-- Every list of optional rules refines itself, related where the configurations are the same.
+abbrev pub Every-profile-refines-itself : Type 0
+Every-profile-refines-itself =
+    (kinds : ℕ → Option Kind) (slots : List (Option Rule)) → Refinement (induced kinds slots) (induced kinds slots) (λ c d. c ≡ d)
 
 -- From every member within k rounds means from the head within k + n, where n counts the enters of the derivation.
 abbrev pub Derivable-rows-keep-count-of-rounds : Type 0

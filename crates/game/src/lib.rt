@@ -2,9 +2,11 @@
 // the plain types that rows are made of.
 ghost use mathlib.Core.Path.{_≡_};
 ghost use Prim.Native.Nat.{min};
-ghost use Rattle.game.specs.Members.{top-of, below-top, member-numbers, member-le, members-of};
+ghost use Rattle.game.specs.Members.{top-of, below-top, member-numbers, member-le, members-of, row-of};
+ghost use Rattle.std.specs.Orderings.{Decides};
 use ordered::Keyed;
 
+pub mod examples;
 pub mod relation;
 pub mod theorems;
 
@@ -16,10 +18,18 @@ pub struct Pair {
 }
 
 // The states of both sides and the symbols on top of both stacks, whatever lies below them.
-#[derive(Clone, Copy, PartialEq, Eq, Debug)]
+#[derive(Clone, Copy, Debug)]
 pub struct Head {
     pub states: Pair,
     pub symbols: Pair,
+}
+
+pub impl PartialEq<Head> for Head as HeadPartialEq {
+    ghost equals = { λ a b r. Decides r (a ≡ b) };
+
+    fn eq(&self, other: &Head) -> bool {
+        self.states == other.states && self.symbols == other.symbols
+    }
 }
 
 // The symbols that lie above the stacks below: none, one pair, or an upper pair above a lower one.
@@ -44,10 +54,18 @@ impl Pairs {
 }
 
 // One position that the replies to an attack lead to: the states of both sides, and the pairs above the stacks below.
-#[derive(Clone, Copy, PartialEq, Eq, Debug)]
+#[derive(Clone, Copy, Debug)]
 pub struct Member {
     pub states: Pair,
     pub symbols: Pairs,
+}
+
+pub impl PartialEq<Member> for Member as MemberPartialEq {
+    ghost equals = { λ a b r. Decides r (a ≡ b) };
+
+    fn eq(&self, other: &Member) -> bool {
+        self.states == other.states && self.symbols == other.symbols
+    }
 }
 
 impl Member {
@@ -129,5 +147,12 @@ impl Row {
         ensures { λ r. ⌜ now r ≡ members-of (now (self .entry)) ⌝ }
     {
         &self.members[0..self.len()]
+    }
+
+    // Whether both hold the same row: head and members are the same, whatever lines made them.
+    pub fn same_row(&self, other: &Row) -> bool
+        ensures { λ r. ⌜ Decides r (row-of (now (self .entry)) ≡ row-of (now (other .entry))) ⌝ }
+    {
+        self.head == other.head && self.members() == other.members()
     }
 }

@@ -1,30 +1,25 @@
 // Relations of any propositions on positions. One that says yes or no to every position is the case in which each
 // proposition is that the answer is yes.
-ghost use Prim.Native.Nat.{ℕ};
 ghost use mathlib.Core.Path.{_≡_};
-ghost use mathlib.Core.List.{List};
-ghost use Rattle.std.specs.declared.option.Option.{Option};
-ghost use Rattle.profile.specs.declared.Kind.{Kind};
-ghost use Rattle.profile.specs.declared.Rule.{Rule};
-ghost use Rattle.game.specs.Systems.{Exactly-when, Refinement, induced};
-ghost use Rattle.game.specs.Game.{Position, Attacker-wins, Defends};
+ghost use Rattle.game.specs.Game.{Position};
+ghost use Rattle.game.specs.Theorems.{Defending-is-refining, Refinement-keeps-attacker-from-winning, Every-profile-refines-itself};
 
-// A relation between a station's and a manual's configurations: at which positions it holds.
+// A relation between a station's and a manual's configurations: the positions at which it holds.
 pub trait Relation {
     ghost holds: { Position → Type 0 };
 }
 
-// That every attack from where the relation holds has a reply to where it holds is the same as that the relation is
-// a refinement between the two induced systems.
+// That every attack from where a relation holds has a reply to where it holds is the same as that the relation is a
+// refinement between the two induced systems.
 pub fn defending_is_refining<R: Relation>() -> u8
-    ensures { λ _. ⌜ ((kinds : ℕ → Option Kind) (station manual : List (Option Rule)) → Exactly-when (Defends kinds station manual (R·Relation .holds)) (Refinement (induced kinds station) (induced kinds manual) (λ c d. R·Relation .holds (record { station = c; manual = d })))) ⌝ }
+    ensures { λ _. ⌜ Defending-is-refining (R·Relation .holds) ⌝ }
 {
     0
 }
 
 // Where a refinement holds, the attacker does not win.
 pub fn refinement_keeps_attacker_from_winning<R: Relation>() -> u8
-    ensures { λ _. ⌜ ((kinds : ℕ → Option Kind) (station manual : List (Option Rule)) → Refinement (induced kinds station) (induced kinds manual) (λ c d. R·Relation .holds (record { station = c; manual = d })) → (pos : Position) → R·Relation .holds pos → Attacker-wins kinds station manual pos → ⊥) ⌝ }
+    ensures { λ _. ⌜ Refinement-keeps-attacker-from-winning (R·Relation .holds) ⌝ }
 {
     0
 }
@@ -39,7 +34,7 @@ pub impl Relation for Same as SameRelation {
 
 // Every list of optional rules refines itself, by that relation.
 pub fn every_profile_refines_itself() -> u8
-    ensures { λ _. ⌜ ((kinds : ℕ → Option Kind) (slots : List (Option Rule)) → Refinement (induced kinds slots) (induced kinds slots) (λ c d. c ≡ d)) ⌝ }
+    ensures { λ _. ⌜ Every-profile-refines-itself ⌝ }
 {
     0
 }
