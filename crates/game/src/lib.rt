@@ -64,7 +64,7 @@ pub impl PartialEq<Member> for Member as MemberPartialEq {
     ghost equals = { λ a b r. Decides r (a ≡ b) };
 
     fn eq(&self, other: &Member) -> bool {
-        self.states == other.states && self.symbols == other.symbols
+        self.symbols == other.symbols && self.states == other.states
     }
 }
 
