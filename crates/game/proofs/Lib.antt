@@ -11,3 +11,4 @@ pub mod Deciding
 pub mod Counting
 pub mod Slots
 pub mod Samples
+pub mod Universe
