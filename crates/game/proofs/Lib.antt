@@ -10,5 +10,6 @@ pub mod Transitions
 pub mod Deciding
 pub mod Counting
 pub mod Slots
-pub mod Samples
 pub mod Universe
+pub mod Growing
+pub mod Samples

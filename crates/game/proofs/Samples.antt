@@ -18,12 +18,13 @@ use Rattle.game.specs.declared.Member.{Member}
 use Rattle.game.specs.declared.Pairs.the-variants.{Zero, One, Two}
 use Rattle.game.specs.Members.{Attack-row}
 use Rattle.game.specs.Systems.{Configuration, induced}
-use Rattle.game.specs.Game.{Position, Side, by-station, by-manual, playable, applies, after, Attack, Reply, Wins}
+use Rattle.game.specs.Game.{Position, Side, by-station, by-manual, playable, applies, after, outcome, Attack, Reply, Wins}
 use Rattle.game.specs.Rows.{head-on, starts, entered, Joins, Derivable, enter-start, enter-top, join, rounds, refuting}
 use Rattle.game.specs.Computed.{joined}
 use Rattle.game.specs.Examples.{kinds, at, head, member, pair, row, moving, staying, stay, origin, station-step, manual-step, opening, closing, both, opening-only, Kinds-tell-what-is-pushed, Modes-tell-who-may-play, Heads-have-the-station-first, Nothing-comes-of-nothing, Joins-keep-the-lower-pair, Members-are-in-this-order, Heads-are-called-for, Rounds-are-counted}
 use Rattle.game.proofs.Gathering.{some-same, some-is-not-none}
 use Rattle.game.proofs.Testing.{computed-joins}
+use Rattle.game.proofs.Growing.{defended-refines}
 
 -- the only slot, and an empty one
 only : (r s : Rule) → In (Some r) (Some s ∷ []) → r ≡ s
@@ -57,6 +58,17 @@ never : (pos : Position) (side : Side) (r : Rule) → Attack [] (stay May) side 
 never pos by-station r t = t .0
 never pos by-manual r t = may-of-manual r pos t
 
+-- in the same configuration, a may rule answers the must rule that attacks
+same-stays : (pos : Position) → pos .station ≡ pos .manual → (side : Side) (r : Rule) → Attack (stay Must) (stay May) side r pos →
+    (s : Rule) × Reply (stay Must) (stay May) side r s pos × (outcome kinds side r s pos .station ≡ outcome kinds side r s pos .manual)
+same-stays pos e by-station r t =
+    let same : r ≡ staying Must = only r (staying Must) (t .0) in (
+      staying May,
+      (inl refl, refl, ap (λ (x : Rule). x .event) (sym same), subst (λ (c : Configuration). applies (staying May) c ≡ true) e (subst (λ (x : Rule). applies x (pos .station) ≡ true) same (t .2))),
+      ap (λ (x : Rule). after kinds x (pos .station)) same ∙ ap (λ (c : Configuration). after kinds (staying May) c) e,
+    )
+same-stays pos e by-manual r t = absurd (false≢true (subst (λ (x : Rule). playable by-manual x ≡ true) (only r (staying May) (t .0)) (t .1)))
+
 pub modes : Modes-tell-who-may-play
 modes = record {
   may-reply-to-must-attack-does-not-count = refl;
@@ -72,6 +84,7 @@ modes = record {
   nothing-does-not-refine-must = enter-start by-manual (staying Must) (inl refl, refl, refl);
   may-does-not-refine-nothing = enter-start by-station (staying May) (inl refl, refl, refl);
   nothing-refines-may = ((λ pos. true), (λ pos e side r t. absurd (never pos side r t)), refl);
+  must-refines-may = defended-refines kinds (stay Must) (stay May) origin (λ pos. pos .station ≡ pos .manual) same-stays refl;
 }
 
 pub heads : Heads-have-the-station-first

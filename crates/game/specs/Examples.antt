@@ -93,6 +93,7 @@ pub record Modes-tell-who-may-play : Type 0 where
   pub nothing-does-not-refine-must : Derivable kinds [] (stay Must) origin (refuting origin)
   pub may-does-not-refine-nothing : Derivable kinds (stay May) [] origin (refuting origin)
   pub nothing-refines-may : Refines kinds [] (stay May) origin
+  pub must-refines-may : Refines kinds (stay Must) (stay May) origin
 
 -- in state 1 on symbol 2, to state 7 on 8; and in state 3 on symbol 4, to state 5 on 6
 abbrev pub station-step : Rule

@@ -19,6 +19,11 @@ use Rattle.game.specs.Game.{Position, Side, by-station, by-manual, after, outc
 use Rattle.game.specs.Rows.{member-on, head-on, starts, leads-to, entered, with-pairs, Joins, Called-for, Closed, Derivable, rounds, Means, Means-within, Fit, refuting}
 use Rattle.game.specs.Computed.{called-for, joined}
 
+-- some modal refinement relation, yes or no at every position, holds the starts
+abbrev pub Refines : (ℕ → Option Kind) → List (Option Rule) → List (Option Rule) → Head → Type 0
+Refines kinds station manual start =
+    (R : Position → Bool) × Modal-refinement kinds station manual R × (R (starts start) ≡ true)
+
 -- Attacks and replies are exactly the transitions that the clauses of refinement speak of.
 pub record Plays-are-transitions (kinds : ℕ → Option Kind) (station manual : List (Option Rule)) : Type 0 where
   pub station-attacks : (pos : Position) (event : ℕ) (to : Configuration) →
@@ -59,6 +64,14 @@ Refinement-keeps-attacker-from-winning holds =
     (kinds : ℕ → Option Kind) (station manual : List (Option Rule)) →
     Refinement (induced kinds station) (induced kinds manual) (λ c d. holds (record { station = c; manual = d })) →
     (pos : Position) → holds pos → Attacker-wins kinds station manual pos → ⊥
+
+-- A refinement of any propositions that holds the starts gives a modal refinement relation, yes or no at every
+-- position, that holds them.
+abbrev pub Any-refinement-gives-a-yes-or-no-one : (Position → Type 0) → Type 0
+Any-refinement-gives-a-yes-or-no-one holds =
+    (kinds : ℕ → Option Kind) (station manual : List (Option Rule)) (start : Head) →
+    Refinement (induced kinds station) (induced kinds manual) (λ c d. holds (record { station = c; manual = d })) →
+    holds (starts start) → Refines kinds station manual start
 
 -- Every list of optional rules refines itself, related where the configurations are the same.
 abbrev pub Every-profile-refines-itself : Type 0
@@ -101,11 +114,6 @@ Derivable-rows-are-the-least-closed-set =
     ((rows : List Attack-row) → Closed kinds station manual start (λ row. In row rows) →
     (row : Attack-row) → Derivable kinds station manual start row → In row rows)
 
--- some modal refinement relation, yes or no at every position, holds the starts
-abbrev pub Refines : (ℕ → Option Kind) → List (Option Rule) → List (Option Rule) → Head → Type 0
-Refines kinds station manual start =
-    (R : Position → Bool) × Modal-refinement kinds station manual R × (R (starts start) ≡ true)
-
 -- these rows are derivable, and closed
 pub record Saturated (kinds : ℕ → Option Kind) (station manual : List (Option Rule)) (start : Head) (rows : List Attack-row) : Type 0 where
   pub derivable : (row : Attack-row) → In row rows → Derivable kinds station manual start row
@@ -131,6 +139,19 @@ Saturated-rows-decide =
     Saturated kinds station manual start rows →
     (In (refuting start) rows × Attacker-wins kinds station manual (starts start) × (Refines kinds station manual start → ⊥)) ⊎
     ((In (refuting start) rows → ⊥) × Refines kinds station manual start × (Attacker-wins kinds station manual (starts start) → ⊥))
+
+-- There are such rows, for every two lists of optional rules and every head.
+abbrev pub Saturated-rows-exist : Type 0
+Saturated-rows-exist =
+    (kinds : ℕ → Option Kind) (station manual : List (Option Rule)) (start : Head) →
+    (rows : List Attack-row) × Saturated kinds station manual start rows
+
+-- So one of the two is always the case.
+abbrev pub Attacker-wins-or-station-refines : Type 0
+Attacker-wins-or-station-refines =
+    (kinds : ℕ → Option Kind) (station manual : List (Option Rule)) (start : Head) →
+    (Attacker-wins kinds station manual (starts start) × (Refines kinds station manual start → ⊥)) ⊎
+    (Refines kinds station manual start × (Attacker-wins kinds station manual (starts start) → ⊥))
 
 -- The members of an enter's row are exactly what the replies lead to, strictly ascending; and that is where the
 -- replies lead on any stacks below.

@@ -2,7 +2,7 @@
 // proposition is that the answer is yes.
 ghost use mathlib.Core.Path.{_≡_};
 ghost use Rattle.game.specs.Game.{Position};
-ghost use Rattle.game.specs.Theorems.{Defending-is-refining, Refinement-keeps-attacker-from-winning, Every-profile-refines-itself};
+ghost use Rattle.game.specs.Theorems.{Defending-is-refining, Refinement-keeps-attacker-from-winning, Any-refinement-gives-a-yes-or-no-one, Every-profile-refines-itself};
 
 // A relation between a station's and a manual's configurations: the positions at which it holds.
 pub trait Relation {
@@ -20,6 +20,13 @@ pub fn defending_is_refining<R: Relation>() -> u8
 // Where a refinement holds, the attacker does not win.
 pub fn refinement_keeps_attacker_from_winning<R: Relation>() -> u8
     ensures { λ _. ⌜ Refinement-keeps-attacker-from-winning (R·Relation .holds) ⌝ }
+{
+    0
+}
+
+// A refinement that holds the starts gives a modal refinement relation, yes or no at every position, that holds them.
+pub fn any_refinement_gives_a_yes_or_no_one<R: Relation>() -> u8
+    ensures { λ _. ⌜ Any-refinement-gives-a-yes-or-no-one (R·Relation .holds) ⌝ }
 {
     0
 }
