@@ -35,8 +35,8 @@ pigeonhole (x ∷ xs) ys d f =
 pub what-fits : (kinds : ℕ → Option Kind) (station manual : List (Option Rule)) (start : Head) (usable : ℕ) → What-fits kinds station manual start usable
 what-fits kinds station manual start usable = record {
   closed-list-fits = λ rows c few narrow. record {
-    narrow = λ row d. narrow row (derivable-least kinds station manual start rows c row d);
-    few = (rows, few, derivable-least kinds station manual start rows c);
+    narrow = λ row d. narrow row (derivable-least kinds station manual start (λ row. In row rows) c row d);
+    few = (rows, few, derivable-least kinds station manual start (λ row. In row rows) c);
   };
   wide-row-does-not = λ row d wide fit. let n = fit .narrow row d in omega arith;
   too-many-do-not = λ rows diff each many fit.

@@ -82,10 +82,11 @@ module _ (kinds : ℕ → Option Kind) (station manual : List (Option Rule)) (st
   pub derivable-closed : Closed kinds station manual start (Derivable kinds station manual start)
   derivable-closed = record { enters = enter-derivable; joins = λ i j k d e t. join i j k d e t }
 
-  pub derivable-least : (rows : List Attack-row) → Closed kinds station manual start (λ row. In row rows) → (row : Attack-row) → Derivable kinds station manual start row → In row rows
-  derivable-least rows c row (enter-start side r t) = c .enters start side r (inl refl) t
-  derivable-least rows c row (enter-top from m h side r d k e t) = c .enters h side r (inr (from, derivable-least rows c from d, m, k, e)) t
-  derivable-least rows c row (join i j k d e t) = c .joins i j k (derivable-least rows c i d) (derivable-least rows c j e) t
+  -- least, among sets of any propositions, and so among lists
+  pub derivable-least : (S : Attack-row → Type 0) → Closed kinds station manual start S → (row : Attack-row) → Derivable kinds station manual start row → S row
+  derivable-least S c row (enter-start side r t) = c .enters start side r (inl refl) t
+  derivable-least S c row (enter-top from m h side r d k e t) = c .enters h side r (inr (from, derivable-least S c from d, m, k, e)) t
+  derivable-least S c row (join i j k d e t) = c .joins i j k (derivable-least S c i d) (derivable-least S c j e) t
 
   pub derivable-ascends : (row : Attack-row) → Derivable kinds station manual start row → Ascending member-le (row .members)
   derivable-ascends row (enter-start side r t) = gathered-ascending (answers side r start) (leads-to kinds side r) (of-replier side station manual) [] tt

@@ -73,10 +73,14 @@ Any-refinement-gives-a-yes-or-no-one holds =
     Refinement (induced kinds station) (induced kinds manual) (λ c d. holds (record { station = c; manual = d })) →
     holds (starts start) → Refines kinds station manual start
 
--- Every list of optional rules refines itself, related where the configurations are the same.
+-- Every list of optional rules refines itself, related where the configurations are the same; so from equal starts a
+-- modal refinement relation holds them.
 abbrev pub Every-profile-refines-itself : Type 0
 Every-profile-refines-itself =
-    (kinds : ℕ → Option Kind) (slots : List (Option Rule)) → Refinement (induced kinds slots) (induced kinds slots) (λ c d. c ≡ d)
+    (kinds : ℕ → Option Kind) (slots : List (Option Rule)) →
+    Refinement (induced kinds slots) (induced kinds slots) (λ c d. c ≡ d) ×
+    ((state symbol : ℕ) → Refines kinds slots slots
+    (record { states = record { station = state; manual = state }; symbols = record { station = symbol; manual = symbol } }))
 
 -- From every member within k rounds means from the head within k + n, where n counts the enters of the derivation.
 abbrev pub Derivable-rows-keep-count-of-rounds : Type 0
@@ -107,12 +111,18 @@ More-rounds-do-no-harm =
     Wins kinds station manual k pos → Wins kinds station manual n pos
 
 -- The derivable rows are closed, and a list that is closed contains every one of them.
-abbrev pub Derivable-rows-are-the-least-closed-set : Type 0
-Derivable-rows-are-the-least-closed-set =
+abbrev pub Derivable-rows-are-the-least-closed-list : Type 0
+Derivable-rows-are-the-least-closed-list =
     (kinds : ℕ → Option Kind) (station manual : List (Option Rule)) (start : Head) →
     Closed kinds station manual start (Derivable kinds station manual start) ×
     ((rows : List Attack-row) → Closed kinds station manual start (λ row. In row rows) →
     (row : Attack-row) → Derivable kinds station manual start row → In row rows)
+
+-- The same for a set of rows by any propositions: where it is closed, it contains every derivable row.
+abbrev pub Derivable-rows-are-the-least-closed-set : (Attack-row → Type 0) → Type 0
+Derivable-rows-are-the-least-closed-set has =
+    (kinds : ℕ → Option Kind) (station manual : List (Option Rule)) (start : Head) → Closed kinds station manual start has →
+    (row : Attack-row) → Derivable kinds station manual start row → has row
 
 -- these rows are derivable, and closed
 pub record Saturated (kinds : ℕ → Option Kind) (station manual : List (Option Rule)) (start : Head) (rows : List Attack-row) : Type 0 where

@@ -8,6 +8,7 @@ use ordered::Keyed;
 
 pub mod examples;
 pub mod relation;
+pub mod row_set;
 pub mod theorems;
 
 // A number of the station's beside one of the manual's: two states, or two stack symbols.

@@ -43,5 +43,5 @@ pub impl Relation for Same as SameRelation {
 pub fn every_profile_refines_itself() -> u8
     ensures { λ _. ⌜ Every-profile-refines-itself ⌝ }
 {
-    0
+    any_refinement_gives_a_yes_or_no_one::<Same>()
 }
