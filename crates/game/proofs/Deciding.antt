@@ -88,10 +88,14 @@ module _ (kinds : ℕ → Option Kind) (station manual : List (Option Rule)) (st
   derivable-least S c row (enter-top from m h side r d k e t) = c .enters h side r (inr (from, derivable-least S c from d, m, k, e)) t
   derivable-least S c row (join i j k d e t) = c .joins i j k (derivable-least S c i d) (derivable-least S c j e) t
 
+  pub ascending-closed : Closed kinds station manual start (λ row. Ascending member-le (row .members))
+  ascending-closed = record {
+    enters = λ h side r k t. gathered-ascending (answers side r h) (leads-to kinds side r) (of-replier side station manual) [] tt;
+    joins = λ i j k a b t. join-ascends i j k t a;
+  }
+
   pub derivable-ascends : (row : Attack-row) → Derivable kinds station manual start row → Ascending member-le (row .members)
-  derivable-ascends row (enter-start side r t) = gathered-ascending (answers side r start) (leads-to kinds side r) (of-replier side station manual) [] tt
-  derivable-ascends row (enter-top from m h side r d k e t) = gathered-ascending (answers side r h) (leads-to kinds side r) (of-replier side station manual) [] tt
-  derivable-ascends row (join i j k d e t) = join-ascends i j k t (derivable-ascends i d)
+  derivable-ascends = derivable-least (λ row. Ascending member-le (row .members)) ascending-closed
 
   pub refinement-or-win : Refines kinds station manual start → Attacker-wins kinds station manual (starts start) → ⊥
   refinement-or-win (R, f, h) w = never-wins kinds station manual (λ pos. R pos ≡ true) f (w .0) (starts start) h (w .1)

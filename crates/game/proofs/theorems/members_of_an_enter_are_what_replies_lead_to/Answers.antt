@@ -11,10 +11,10 @@ use Rattle.game.proofs.theorems.members_of_an_enter_are_what_replies_lead_to.N
 
 pub returns : need.returns
 returns c = λ kinds station manual side r h. (
-      (λ m. (
-        entered-from kinds station manual side r h m,
-        (λ t. subst (λ (x : Member). In x (entered kinds station manual side r h .members)) (sym (t .2)) (reply-in-row kinds station manual h side r (t .0) h (t .1))),
-      )),
-      gathered-ascending (answers side r h) (leads-to kinds side r) (of-replier side station manual) [] tt,
-      (λ s a b t. leads-there kinds side r s h a b (t .2)),
-    )
+  (λ m. (
+    entered-from kinds station manual side r h m,
+    (λ t. subst (λ (x : Member). In x (entered kinds station manual side r h .members)) (sym (t .2)) (reply-in-row kinds station manual h side r (t .0) h (t .1))),
+  )),
+  gathered-ascending (answers side r h) (leads-to kinds side r) (of-replier side station manual) [] tt,
+  (λ s a b t. leads-there kinds side r s h a b (t .2)),
+)
