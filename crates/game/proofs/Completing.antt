@@ -1,7 +1,7 @@
 -- A closed list of rows without the refuting one gives a modal refinement relation that holds the starts.
 use mathlib.Core.Path.{_≡_, refl, sym, ap, subst, _∙_}
 use mathlib.Core.List.{List, [], _∷_, _++_, map}
-use mathlib.Core.Bool.{Bool, true, false, cond, not, _&&_, _||_}
+use mathlib.Core.Bool.{Bool, true, false, cond, not, _||_}
 use mathlib.Core.Logic.{_⊎_, inl, inr, ⊎-elim}
 use Prim.Native.Nat.{ℕ, zero, suc, _≤_, _<_}
 use native.Mathlib.Omega.{arith}
@@ -20,12 +20,12 @@ use Rattle.game.specs.declared.Pairs.{Pairs}
 use Rattle.game.specs.declared.Pairs.the-variants.{Zero, One, Two}
 use Rattle.game.specs.declared.Member.{Member}
 use Rattle.game.specs.Members.{Attack-row, top-of, top-under, below-top, pair-count, member-le}
-use Rattle.game.specs.Game.{Position, Side, by-station, by-manual, of-replier, Attack, Reply, outcome, Defends, Modal-refinement}
-use Rattle.game.specs.Rows.{station-on, manual-on, member-on, head-on, starts, pushed-pairs, leads-to, answers, entered, Pairless, with-pairs, put-in, Joins, Called-for, Closed, refuting}
-use Rattle.game.specs.Computed.{any-of, all-of, head-eq, called-for}
+use Rattle.game.specs.Game.{Position, Side, by-station, by-manual, of-replier, Attack, Reply, outcome, Modal-refinement}
+use Rattle.game.specs.Rows.{station-on, manual-on, member-on, head-on, starts, pushed-pairs, leads-to, answers, entered, Pairless, with-pairs, put-in, Closed, refuting}
+use Rattle.game.specs.Computed.{any-of, all-of, called-for}
 use Rattle.game.proofs.Order.{earlier-has-no-more-pairs}
 use Rattle.game.proofs.Sets.{in-front, in-last, front-or-last, split-last, from-map, front-ascending, before-last}
-use Rattle.game.proofs.Gathering.{gathered-ascending, gathered-from, put-ascending, put-from, some-is-not-none}
+use Rattle.game.proofs.Gathering.{gathered-ascending, gathered-from, put-ascending, put-from}
 use Rattle.game.proofs.Sound.{leads-there, attack-on, reply-on, answers-means, top-is-head}
 use Rattle.game.proofs.Testing.{any-has, any-none, all-holds, head-eq-shown}
 use Rattle.game.proofs.Relating.{returns-from, returns-means, related, relation, row-of-failure, rows-where-held}

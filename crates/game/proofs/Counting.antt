@@ -2,7 +2,7 @@
 use mathlib.Core.Path.{_≡_, refl, sym, ap, _∙_, subst}
 use mathlib.Core.List.{List, [], _∷_}
 use mathlib.Core.Logic.{_⊎_, inl, inr, ⊎-elim}
-use Prim.Native.Nat.{ℕ, suc, _≤_, _<_}
+use Prim.Native.Nat.{ℕ, suc, _≤_}
 use native.Mathlib.Omega.{arith}
 use lib.ListN.{length}
 use Rattle.std.specs.declared.option.Option.{Option}
@@ -11,7 +11,6 @@ use Rattle.profile.specs.declared.Kind.{Kind}
 use Rattle.profile.specs.declared.Rule.{Rule}
 use Rattle.game.specs.declared.Head.{Head}
 use Rattle.game.specs.Members.{Attack-row}
-use Rattle.game.specs.Rows.{Closed, Derivable, Fit}
 use Rattle.game.specs.Theorems.{Different, What-fits}
 use Rattle.game.proofs.Deciding.{derivable-least}
 

@@ -1,12 +1,11 @@
 -- The derivable rows are the least closed set, and a closed list of them decides the game.
-use mathlib.Core.Path.{_≡_, refl, sym, ap, subst, _∙_}
-use mathlib.Core.List.{List, [], _∷_, _++_, map}
+use mathlib.Core.Path.{_≡_, refl, sym, subst}
+use mathlib.Core.List.{List, [], _∷_, map}
 use mathlib.Core.Bool.{Bool, true, false, _&&_}
 use mathlib.Core.Logic.{_⊎_, inl, inr, ⊎-elim}
 use Prim.Native.Nat.{ℕ}
 use Rattle.std.proofs.shelf.Tests.{and-parts, and-from, cases-bool, both-ways, false≢true}
 use Rattle.std.specs.declared.option.Option.{Option}
-use Rattle.std.specs.declared.option.Option.the-variants.{Some}
 use Rattle.ordered.specs.Laws.{In, Ascending}
 use Rattle.profile.specs.declared.Kind.{Kind}
 use Rattle.profile.specs.declared.Rule.{Rule}
@@ -14,7 +13,7 @@ use Rattle.game.specs.declared.Head.{Head}
 use Rattle.game.specs.declared.Member.{Member}
 use Rattle.game.specs.Members.{Attack-row, below-top, member-le}
 use Rattle.game.specs.Systems.{Exactly-when}
-use Rattle.game.specs.Game.{Position, Side, of-replier, Attack, Attacker-wins, Modal-refinement}
+use Rattle.game.specs.Game.{Side, of-replier, Attack, Attacker-wins}
 use Rattle.game.specs.Rows.{head-on, starts, leads-to, answers, entered, with-pairs, Joins, Called-for, Closed, Derivable, enter-start, enter-top, join, refuting}
 use Rattle.game.specs.Computed.{any-of, head-eq}
 use Rattle.game.specs.Theorems.{Refines, Saturated}

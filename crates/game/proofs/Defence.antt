@@ -1,12 +1,11 @@
 -- Where a relation that the replying side can stay within holds, the attacker does not win; more rounds do no harm.
-use mathlib.Core.Path.{_≡_}
 use mathlib.Core.List.{List}
 use Prim.Native.Nat.{ℕ, zero, suc, _≤_}
 use native.Mathlib.Nat.{le-of-suc-le-suc, not-suc-le-zero}
 use Rattle.std.specs.declared.option.Option.{Option}
 use Rattle.profile.specs.declared.Kind.{Kind}
 use Rattle.profile.specs.declared.Rule.{Rule}
-use Rattle.game.specs.Game.{Position, Attack, Reply, outcome, Wins, Attacker-wins, Defends}
+use Rattle.game.specs.Game.{Position, outcome, Wins, Defends}
 
 module _ (kinds : ℕ → Option Kind) (station manual : List (Option Rule)) where
   pub never-wins : (R : Position → Type 0) → Defends kinds station manual R → (k : ℕ) (pos : Position) → R pos → Wins kinds station manual k pos → ⊥

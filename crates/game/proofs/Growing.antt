@@ -2,7 +2,7 @@
 -- derivable rows are finitely many.
 use mathlib.Core.Path.{_≡_, refl, sym, ap, subst, _∙_}
 use mathlib.Core.List.{List, [], _∷_, _++_}
-use mathlib.Core.Bool.{Bool, true, false, cond, _&&_, not}
+use mathlib.Core.Bool.{Bool, true, false, cond, _&&_}
 use mathlib.Core.Logic.{_⊎_, inl, inr, ⊎-elim}
 use Prim.Native.Nat.{ℕ, zero, suc, _+_, _≤_}
 use native.Mathlib.Omega.{arith}
@@ -18,11 +18,10 @@ use Rattle.game.specs.declared.Head.{Head}
 use Rattle.game.specs.declared.Member.{Member}
 use Rattle.game.specs.Members.{Attack-row, top-of, member-numbers}
 use Rattle.game.specs.Game.{Side, by-station, by-manual, of-attacker, playable, applies, Attack, Attacker-wins, Position, Defends}
-use Rattle.game.specs.Rows.{head-on, starts, entered, Joins, Called-for, Closed, Derivable, join}
+use Rattle.game.specs.Rows.{head-on, starts, entered, Called-for, Closed, Derivable, join}
 use Rattle.game.specs.Computed.{any-of, head-eq, joined}
 use Rattle.game.specs.Theorems.{Refines, Saturated, Different}
 use Rattle.game.proofs.Order.{numbers-tell-the-member}
-use Rattle.game.proofs.Gathering.{some-same, some-is-not-none}
 use Rattle.game.proofs.Testing.{any-has, any-holds, head-eq-means, head-eq-shown, join-computed, computed-joins}
 use Rattle.game.proofs.Defence.{never-wins}
 use Rattle.game.proofs.Deciding.{derivable-closed, Refuted, Not-refuted, decide}

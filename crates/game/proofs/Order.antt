@@ -2,8 +2,8 @@
 use Prim.Native.Nat.{ℕ, _≤_}
 use native.Mathlib.Omega.{arith}
 use mathlib.Core.Path.{_≡_, refl}
-use mathlib.Core.Bool.{Bool, true, false, cond}
-use mathlib.Core.List.{List, [], _∷_}
+use mathlib.Core.Bool.{true, false, cond}
+use mathlib.Core.List.{List, _∷_}
 use lib.Dec.{ltb, eqb}
 use Rattle.std.proofs.shelf.Tests.{cond-both, ltb-true, eqb-true, false≢true}
 use Rattle.ordered.specs.Lex.{lex-le}

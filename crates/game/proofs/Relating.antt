@@ -1,10 +1,10 @@
 -- The relation that a list of rows gives, computed on the two stacks: two empty stacks are related; stacks of
 -- unequal height are not; otherwise the head must be called for, and of every row of that head without pairs some
 -- member must be related on the stacks below.
-use mathlib.Core.Path.{_≡_, refl, sym, ap, subst, _∙_}
+use mathlib.Core.Path.{_≡_}
 use mathlib.Core.List.{List, [], _∷_}
 use mathlib.Core.Bool.{Bool, true, false, not, _&&_, _||_}
-use mathlib.Core.Logic.{_⊎_, inl, inr, ⊎-elim}
+use mathlib.Core.Logic.{_⊎_, ⊎-elim}
 use Prim.Native.Nat.{ℕ}
 use Rattle.std.proofs.shelf.Tests.{and-parts, and-from, and-cases, or-cases, or-parts, not-false, not-from-true, both-ways}
 use Rattle.ordered.specs.Laws.{In}

@@ -2,26 +2,21 @@
 use Prim.Native.Nat.{ℕ}
 use native.Mathlib.Omega.{arith}
 use mathlib.Core.Path.{_≡_, refl, sym, ap, subst, _∙_}
-use mathlib.Core.Bool.{Bool, true, false}
+use mathlib.Core.Bool.{true}
 use mathlib.Core.List.{List, [], _∷_}
 use mathlib.Core.Logic.{_⊎_, inl, inr, ⊎-elim}
 use Rattle.std.proofs.shelf.Tests.{false≢true}
 use Rattle.std.specs.declared.option.Option.{Option}
 use Rattle.std.specs.declared.option.Option.the-variants.{Some, None}
 use Rattle.ordered.specs.Laws.{In}
-use Rattle.profile.specs.declared.Mode.{Mode}
 use Rattle.profile.specs.declared.Mode.the-variants.{May, Must}
-use Rattle.profile.specs.declared.Kind.{Kind}
 use Rattle.profile.specs.declared.Rule.{Rule}
-use Rattle.game.specs.declared.Head.{Head}
-use Rattle.game.specs.declared.Member.{Member}
-use Rattle.game.specs.declared.Pairs.the-variants.{Zero, One, Two}
+use Rattle.game.specs.declared.Pairs.the-variants.{Two}
 use Rattle.game.specs.Members.{Attack-row}
-use Rattle.game.specs.Systems.{Configuration, induced}
+use Rattle.game.specs.Systems.{Configuration}
 use Rattle.game.specs.Game.{Position, Side, by-station, by-manual, playable, applies, after, outcome, Attack, Reply, Wins}
-use Rattle.game.specs.Rows.{head-on, starts, entered, Joins, Derivable, enter-start, enter-top, join, rounds, refuting}
-use Rattle.game.specs.Computed.{joined}
-use Rattle.game.specs.Examples.{kinds, at, head, member, pair, row, moving, staying, stay, origin, station-step, manual-step, opening, closing, both, opening-only, Kinds-tell-what-is-pushed, Modes-tell-who-may-play, Heads-have-the-station-first, Nothing-comes-of-nothing, Joins-keep-the-lower-pair, Members-are-in-this-order, Heads-are-called-for, Rounds-are-counted}
+use Rattle.game.specs.Rows.{head-on, starts, Derivable, enter-start, enter-top, join, refuting}
+use Rattle.game.specs.Examples.{kinds, at, head, member, pair, row, moving, staying, stay, origin, opening, closing, both, opening-only, Kinds-tell-what-is-pushed, Modes-tell-who-may-play, Heads-have-the-station-first, Nothing-comes-of-nothing, Joins-keep-the-lower-pair, Members-are-in-this-order, Heads-are-called-for, Rounds-are-counted}
 use Rattle.game.proofs.Gathering.{some-same, some-is-not-none}
 use Rattle.game.proofs.Testing.{computed-joins}
 use Rattle.game.proofs.Growing.{defended-refines}

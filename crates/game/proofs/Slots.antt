@@ -1,15 +1,13 @@
 -- What is derivable depends only on which may rules and which must rules there are.
 use mathlib.Core.Path.{_≡_, refl, sym, ap, subst, _∙_}
 use mathlib.Core.List.{List, [], _∷_}
-use mathlib.Core.Bool.{Bool, true, false, _&&_}
-use mathlib.Core.Logic.{_⊎_, inl, inr, ⊎-elim}
+use mathlib.Core.Bool.{true}
 use Prim.Native.Nat.{ℕ}
-use lib.Dec.{eqb}
 use Rattle.std.specs.declared.option.Option.{Option}
 use Rattle.std.specs.declared.option.Option.the-variants.{Some, None}
-use Rattle.ordered.specs.Laws.{In, Ascending}
+use Rattle.ordered.specs.Laws.{In}
 use Rattle.ordered.proofs.Orders.{same-elements-same-list}
-use Rattle.profile.specs.declared.Mode.the-variants.{May, Must}
+use Rattle.profile.specs.declared.Mode.the-variants.{May}
 use Rattle.profile.specs.declared.Kind.{Kind}
 use Rattle.profile.specs.declared.Kind.the-variants.{Open, Step, Close}
 use Rattle.profile.specs.declared.Rule.{Rule}

@@ -1,12 +1,11 @@
 -- Every derivable row means what a row means.
 use mathlib.Core.Path.{_≡_, refl, sym, ap, subst, _∙_}
 use mathlib.Core.List.{List, [], _∷_, _++_, map}
-use mathlib.Core.Bool.{Bool, true, false, _&&_}
+use mathlib.Core.Bool.{true}
 use mathlib.Core.Logic.{_⊎_, inl, inr, ⊎-elim}
-use Prim.Native.Nat.{ℕ, zero, suc, _+_, _≤_, max}
+use Prim.Native.Nat.{ℕ, _+_, max}
 use native.Mathlib.Numerals.{add-one}
 use native.Mathlib.Omega.{arith}
-use lib.Dec.{eqb}
 use Rattle.std.proofs.shelf.Tests.{and-from, and-parts, eq-eqb, eqb-true}
 use Rattle.std.specs.declared.option.Option.{Option}
 use Rattle.std.specs.declared.option.Option.the-variants.{Some, None}
@@ -21,8 +20,8 @@ use Rattle.game.specs.declared.Pairs.the-variants.{Zero, One, Two}
 use Rattle.game.specs.declared.Member.{Member}
 use Rattle.game.specs.Members.{Attack-row, top-under, top-of, below-top}
 use Rattle.game.specs.Systems.{pushed}
-use Rattle.game.specs.Game.{Position, Side, by-station, by-manual, of-replier, playable, applies, outcome, Attack, Reply, Wins, Attacker-wins}
-use Rattle.game.specs.Rows.{station-on, manual-on, member-on, head-on, starts, pushed-pairs, leads-to, answers, gathered, entered, with-pairs, put-in, Joins, Derivable, enter-start, enter-top, join, rounds, Means-within, Means, refuting}
+use Rattle.game.specs.Game.{Position, Side, by-station, by-manual, of-replier, outcome, Attack, Reply, Wins, Attacker-wins}
+use Rattle.game.specs.Rows.{station-on, manual-on, member-on, head-on, starts, pushed-pairs, leads-to, answers, entered, with-pairs, put-in, Joins, Derivable, enter-start, enter-top, join, rounds, Means-within, Means, refuting}
 use Rattle.game.proofs.Sets.{in-map, front-or-last}
 use Rattle.game.proofs.Gathering.{some-same, some-is-not-none, gathered-has, put-has, put-keeps}
 use Rattle.game.proofs.Defence.{wins-more}

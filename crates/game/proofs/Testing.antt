@@ -1,11 +1,10 @@
 -- The computed tests and the computed join say what the definitions say.
 use mathlib.Core.Path.{_≡_, refl, sym, ap, subst, _∙_}
 use mathlib.Core.List.{List, [], _∷_, _++_, map}
-use mathlib.Core.Bool.{Bool, true, false, cond, _&&_, _||_}
+use mathlib.Core.Bool.{Bool, true, false, _&&_}
 use mathlib.Core.Logic.{_⊎_, inl, inr, ⊎-elim}
-use Prim.Native.Nat.{ℕ}
 use lib.Dec.{eqb}
-use Rattle.std.proofs.shelf.Tests.{and-parts, and-from, and-cases, or-cases, or-parts, or-left, or-right, eqb-true, eq-eqb, both-ways, false≢true, cond-true, cond-both}
+use Rattle.std.proofs.shelf.Tests.{and-parts, and-from, and-cases, or-cases, or-parts, or-left, or-right, eqb-true, eq-eqb, false≢true, cond-true, cond-both}
 use Rattle.std.specs.declared.option.Option.{Option}
 use Rattle.std.specs.declared.option.Option.the-variants.{Some, None}
 use Rattle.ordered.specs.Laws.{In}

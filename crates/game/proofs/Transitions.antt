@@ -1,19 +1,17 @@
 -- Attacks and replies are the transitions of the induced systems, and defending is refining.
 use mathlib.Core.Path.{_≡_, refl, sym, ap, subst, _∙_}
-use mathlib.Core.List.{List, [], _∷_, _++_, tail}
-use mathlib.Core.Bool.{Bool, true, false}
+use mathlib.Core.List.{List, [], _∷_}
+use mathlib.Core.Bool.{true}
 use Prim.Native.Nat.{ℕ}
 use lib.Dec.{eqb}
 use Rattle.std.proofs.shelf.Tests.{and-parts, and-from, eqb-true, eq-eqb, false≢true}
 use Rattle.std.specs.declared.option.Option.{Option}
-use Rattle.std.specs.declared.option.Option.the-variants.{Some}
-use Rattle.ordered.specs.Laws.{In}
 use Rattle.profile.specs.declared.Mode.{Mode}
 use Rattle.profile.specs.declared.Mode.the-variants.{May, Must}
 use Rattle.profile.specs.declared.Kind.{Kind}
 use Rattle.profile.specs.declared.Rule.{Rule}
-use Rattle.game.specs.Systems.{Configuration, pushed, Leads, May-transition, Must-transition, Refinement, induced}
-use Rattle.game.specs.Game.{Position, Side, by-station, by-manual, is-must, matches, applies, after, outcome, Attack, Reply, Defends}
+use Rattle.game.specs.Systems.{Configuration, Leads, Refinement, induced}
+use Rattle.game.specs.Game.{Position, by-station, by-manual, is-must, matches, applies, after, Defends}
 use Rattle.game.specs.Theorems.{Plays-are-transitions}
 
 pub must-means : (m : Mode) → is-must m ≡ true → m ≡ Must

@@ -1,5 +1,5 @@
 -- There are only finitely many derivable rows: all lie in one list, made of the rules' next states and symbols.
-use mathlib.Core.Path.{_≡_, refl, sym, ap, subst, _∙_}
+use mathlib.Core.Path.{_≡_, refl, sym, ap, subst}
 use mathlib.Core.List.{List, [], _∷_, _++_, map}
 use mathlib.Core.Bool.{Bool, true, false}
 use mathlib.Core.Logic.{_⊎_, inl, inr, ⊎-elim}
@@ -16,14 +16,14 @@ use Rattle.game.specs.declared.Head.{Head}
 use Rattle.game.specs.declared.Pairs.{Pairs}
 use Rattle.game.specs.declared.Pairs.the-variants.{Zero, One, Two}
 use Rattle.game.specs.declared.Member.{Member}
-use Rattle.game.specs.Members.{Attack-row, top-under, top-of, below-top, member-le}
+use Rattle.game.specs.Members.{Attack-row, top-under, below-top, member-le}
 use Rattle.game.specs.Game.{Side, by-station, by-manual, of-attacker, of-replier, Attack}
-use Rattle.game.specs.Rows.{head-on, pushed-pairs, leads-to, answers, entered, with-pairs, put-in, Joins, Derivable, enter-start, enter-top, join}
+use Rattle.game.specs.Rows.{head-on, pushed-pairs, leads-to, entered, with-pairs, put-in, Joins, Derivable, enter-start, enter-top, join}
 use Rattle.game.proofs.Order.{member-transitive}
 use Rattle.game.proofs.Sets.{in-map, from-map, in-front, in-last}
-use Rattle.game.proofs.Gathering.{some-same, some-is-not-none, gathered-ascending, put-ascending, put-has, put-from}
+use Rattle.game.proofs.Gathering.{some-same, some-is-not-none, put-ascending, put-has}
 use Rattle.game.proofs.Completing.{entered-from}
-use Rattle.game.proofs.Deciding.{lowered, join-ascends, join-members, derivable-ascends}
+use Rattle.game.proofs.Deciding.{join-members, derivable-ascends}
 
 module _ {A : Type 0} where
   pub in-left : (xs ys : List A) (z : A) → In z xs → In z (xs ++ ys)

@@ -1,7 +1,7 @@
 -- Worked examples on each side of every rule of the game. The theorems would stay true of a wrong game; these would not.
 use Prim.Native.Nat.{ℕ}
 use mathlib.Core.Path.{_≡_}
-use mathlib.Core.Bool.{Bool, true, false, cond}
+use mathlib.Core.Bool.{true, false, cond}
 use mathlib.Core.List.{List, [], _∷_}
 use lib.Dec.{eqb}
 use Rattle.std.specs.declared.option.Option.{Option}
@@ -19,8 +19,8 @@ use Rattle.game.specs.declared.Pairs.the-variants.{Zero, One, Two}
 use Rattle.game.specs.declared.Member.{Member}
 use Rattle.game.specs.Members.{Attack-row, top-of, member-le}
 use Rattle.game.specs.Systems.{Configuration, induced}
-use Rattle.game.specs.Game.{Position, Side, by-station, by-manual, applies, after, Attack, Reply, Wins, Attacker-wins}
-use Rattle.game.specs.Rows.{head-on, starts, leads-to, entered, Derivable, rounds, refuting}
+use Rattle.game.specs.Game.{Position, Side, by-station, by-manual, applies, after, Attack, Reply, Wins}
+use Rattle.game.specs.Rows.{starts, leads-to, entered, Derivable, rounds, refuting}
 use Rattle.game.specs.Computed.{called-for, joined}
 use Rattle.game.specs.Theorems.{Refines}
 

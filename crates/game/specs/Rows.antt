@@ -1,7 +1,7 @@
 -- Attack rows: the row of an attack, the row of a join, and the rows that are derivable.
 use Prim.Native.Nat.{ℕ, _+_, _≤_}
 use mathlib.Core.Path.{_≡_}
-use mathlib.Core.Bool.{Bool, true, false, cond, _&&_}
+use mathlib.Core.Bool.{Bool, cond, _&&_}
 use mathlib.Core.List.{List, [], _∷_, _++_, map}
 use mathlib.Core.Logic.{_⊎_}
 use lib.Dec.{eqb}
@@ -13,7 +13,6 @@ use Rattle.ordered.specs.Laws.{In}
 use Rattle.profile.specs.declared.Kind.{Kind}
 use Rattle.profile.specs.declared.Kind.the-variants.{Open, Step, Close}
 use Rattle.profile.specs.declared.Rule.{Rule}
-use Rattle.game.specs.declared.Pair.{Pair}
 use Rattle.game.specs.declared.Head.{Head}
 use Rattle.game.specs.declared.Pairs.{Pairs}
 use Rattle.game.specs.declared.Pairs.the-variants.{Zero, One, Two}
@@ -63,7 +62,7 @@ module _ (kinds : ℕ → Option Kind) (station manual : List (Option Rule)) whe
       (k : ℕ) (a b : List ℕ) → ((m : Member) → In m (row .members) → Wins kinds station manual k (member-on m a b)) →
       Wins kinds station manual (k + n) (head-on (row .head) a b)
 
--- ENTER. The pairs that a station's rule r and a manual's rule s put, by the kind of their event.
+-- Enter. The pairs that a station's rule r and a manual's rule s put, by the kind of their event.
 abbrev pub pushed-pairs : Option Kind → Rule → Rule → Pairs
 pushed-pairs (Some Open) r s = Two (record { station = r .upper; manual = s .upper }) (record { station = r .lower; manual = s .lower })
 pushed-pairs (Some Step) r s = One (record { station = r .upper; manual = s .upper })
@@ -101,7 +100,7 @@ entered kinds station manual side r h = record {
   members = gathered (answers side r h) (leads-to kinds side r) (of-replier side station manual) [];
 }
 
--- JOIN. No member has a pair.
+-- Join. Whether no member has a pair.
 abbrev pub Pairless : List Member → Type 0
 Pairless ms = (m : Member) → In m ms → m .symbols ≡ Zero
 
@@ -124,7 +123,7 @@ pub record Joins (i j k : Attack-row) : Type 0 where
   pub pairless : Pairless (j .members)
   pub gives : k ≡ record { head = i .head; members = put-in (map (with-pairs (below-top (last .symbols))) (j .members)) front }
 
--- CALLED FOR by a set of rows: the head of the starts, or the top of a member of a row of the set.
+-- A head is called for by a set of rows: it is the head of the starts, or the top of a member of a row of the set.
 abbrev pub Called-for : Head → (Attack-row → Type 0) → Head → Type 0
 Called-for start S h =
     (h ≡ start) ⊎ ((row : Attack-row) × S row × (m : Member) × In m (row .members) × (top-of m ≡ Some h))
@@ -136,7 +135,7 @@ module _ (kinds : ℕ → Option Kind) (station manual : List (Option Rule)) (st
         S (entered kinds station manual side r h)
     pub joins : (i j k : Attack-row) → S i → S j → Joins i j k → S k
 
-  -- DERIVABLE: the least closed set of rows, of any width.
+  -- The derivable rows: the least closed set of rows, of any width.
   pub data Derivable : Attack-row → Type 0 where
     enter-start : (side : Side) (r : Rule) → Attack station manual side r (starts start) →
         Derivable (entered kinds station manual side r start)

@@ -5,8 +5,7 @@ use mathlib.Core.List.{List, [], _∷_, _++_}
 use Rattle.std.specs.declared.option.Option.{Option}
 use Rattle.std.specs.declared.option.Option.the-variants.{Some, None}
 use Rattle.ordered.specs.Laws.{In}
-use Rattle.profile.specs.declared.Mode.{Mode}
-use Rattle.profile.specs.declared.Mode.the-variants.{May, Must}
+use Rattle.profile.specs.declared.Mode.the-variants.{Must}
 use Rattle.profile.specs.declared.Kind.{Kind}
 use Rattle.profile.specs.declared.Kind.the-variants.{Open, Step, Close}
 use Rattle.profile.specs.declared.Rule.{Rule}

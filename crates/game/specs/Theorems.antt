@@ -13,7 +13,7 @@ use Rattle.profile.specs.declared.Kind.{Kind}
 use Rattle.profile.specs.declared.Rule.{Rule}
 use Rattle.game.specs.declared.Head.{Head}
 use Rattle.game.specs.declared.Member.{Member}
-use Rattle.game.specs.Members.{Attack-row, top-of, below-top, member-le}
+use Rattle.game.specs.Members.{Attack-row, below-top, member-le}
 use Rattle.game.specs.Systems.{Exactly-when, Configuration, Refinement, induced, Same-rules}
 use Rattle.game.specs.Game.{Position, Side, by-station, by-manual, after, outcome, Attack, Reply, Wins, Attacker-wins, Defends, Modal-refinement}
 use Rattle.game.specs.Rows.{member-on, head-on, starts, leads-to, entered, with-pairs, Joins, Called-for, Closed, Derivable, rounds, Means, Means-within, Fit, refuting}
@@ -39,6 +39,7 @@ pub record Plays-are-transitions (kinds : ℕ → Option Kind) (station manual :
       Exactly-when ((s : Rule) × Reply station manual by-manual r s pos × (after kinds s (pos .station) ≡ to))
       (induced kinds station .must (pos .station) (r .event) to)
 
+-- The same, of any two lists of optional rules.
 abbrev pub Attacks-and-replies-are-the-transitions : Type 0
 Attacks-and-replies-are-the-transitions =
     (kinds : ℕ → Option Kind) (station manual : List (Option Rule)) → Plays-are-transitions kinds station manual
@@ -88,6 +89,7 @@ Derivable-rows-keep-count-of-rounds =
     (kinds : ℕ → Option Kind) (station manual : List (Option Rule)) (start : Head) (row : Attack-row)
     (d : Derivable kinds station manual start row) → Means-within kinds station manual (rounds kinds station manual start d) row
 
+-- On any stacks below, if the attacker wins from every member of a derivable row, it wins from the head.
 abbrev pub Derivable-rows-mean-what-rows-mean : Type 0
 Derivable-rows-mean-what-rows-mean =
     (kinds : ℕ → Option Kind) (station manual : List (Option Rule)) (start : Head) (row : Attack-row) →
@@ -105,14 +107,15 @@ Relation-keeps-attacker-from-winning =
     (kinds : ℕ → Option Kind) (station manual : List (Option Rule)) (R : Position → Bool) → Modal-refinement kinds station manual R →
     (pos : Position) → R pos ≡ true → Attacker-wins kinds station manual pos → ⊥
 
+-- Winning within k rounds is winning within any greater number.
 abbrev pub More-rounds-do-no-harm : Type 0
 More-rounds-do-no-harm =
     (kinds : ℕ → Option Kind) (station manual : List (Option Rule)) (k n : ℕ) (pos : Position) → k ≤ n →
     Wins kinds station manual k pos → Wins kinds station manual n pos
 
 -- The derivable rows are closed, and a list that is closed contains every one of them.
-abbrev pub Derivable-rows-are-the-least-closed-list : Type 0
-Derivable-rows-are-the-least-closed-list =
+abbrev pub Closed-lists-hold-every-derivable-row : Type 0
+Closed-lists-hold-every-derivable-row =
     (kinds : ℕ → Option Kind) (station manual : List (Option Rule)) (start : Head) →
     Closed kinds station manual start (Derivable kinds station manual start) ×
     ((rows : List Attack-row) → Closed kinds station manual start (λ row. In row rows) →
@@ -124,18 +127,19 @@ Derivable-rows-are-the-least-closed-set has =
     (kinds : ℕ → Option Kind) (station manual : List (Option Rule)) (start : Head) → Closed kinds station manual start has →
     (row : Attack-row) → Derivable kinds station manual start row → has row
 
--- these rows are derivable, and closed
+-- rows that are all derivable, and that are closed: no derivable row is missing
 pub record Saturated (kinds : ℕ → Option Kind) (station manual : List (Option Rule)) (start : Head) (rows : List Attack-row) : Type 0 where
   pub derivable : (row : Attack-row) → In row rows → Derivable kinds station manual start row
   pub closed : Closed kinds station manual start (λ row. In row rows)
 
--- What such rows say of the starts is so, both ways.
+-- Of such rows: the station refines the manual exactly when the refuting row is not among them.
 abbrev pub Refines-exactly-when-not-refuted : Type 0
 Refines-exactly-when-not-refuted =
     (kinds : ℕ → Option Kind) (station manual : List (Option Rule)) (start : Head) (rows : List Attack-row) →
     Saturated kinds station manual start rows →
     Exactly-when (Refines kinds station manual start) (In (refuting start) rows → ⊥)
 
+-- Of such rows: the attacker wins from the starts exactly when the refuting row is among them.
 abbrev pub Attacker-wins-exactly-when-refuted : Type 0
 Attacker-wins-exactly-when-refuted =
     (kinds : ℕ → Option Kind) (station manual : List (Option Rule)) (start : Head) (rows : List Attack-row) →
@@ -182,11 +186,13 @@ Members-of-a-join-are-both-rows =
     ((m : Member) → Exactly-when (In m (k .members)) (In m (t .front) ⊎ In m (map (with-pairs (below-top (t .last .symbols))) (j .members)))) ×
     (Ascending member-le (i .members) → Ascending member-le (k .members))
 
+-- The members of every derivable row are strictly ascending.
 abbrev pub Derivable-rows-ascend : Type 0
 Derivable-rows-ascend =
     (kinds : ℕ → Option Kind) (station manual : List (Option Rule)) (start : Head) (row : Attack-row) →
     Derivable kinds station manual start row → Ascending member-le (row .members)
 
+-- Two strictly ascending lists with the same members are equal.
 abbrev pub Same-members-same-list : Type 0
 Same-members-same-list =
     (ms ns : List Member) → Ascending member-le ms → Ascending member-le ns → ((m : Member) → Exactly-when (In m ms) (In m ns)) → ms ≡ ns

@@ -1,6 +1,6 @@
 // What is proved of the game and the rows: a theorem stands on the contract of each function, and a function is only
 // there if its contract is proved.
-ghost use Rattle.game.specs.Theorems.{Attacks-and-replies-are-the-transitions, Modal-refinement-is-refinement, Derivable-rows-keep-count-of-rounds, Derivable-rows-mean-what-rows-mean, Refuted-means-attacker-wins, Relation-keeps-attacker-from-winning, More-rounds-do-no-harm, Derivable-rows-are-the-least-closed-list, Refines-exactly-when-not-refuted, Attacker-wins-exactly-when-refuted, Saturated-rows-decide, Saturated-rows-exist, Attacker-wins-or-station-refines, Members-of-an-enter-are-what-replies-lead-to, Members-of-a-join-are-both-rows, Same-members-same-list, Derivable-depends-on-the-rules-alone, Different-rows-are-no-more-than-the-list, Rows-fit-by-width-and-number, Computed-joins-are-the-joins, Computed-called-for-is-called-for};
+ghost use Rattle.game.specs.Theorems.{Attacks-and-replies-are-the-transitions, Modal-refinement-is-refinement, Derivable-rows-keep-count-of-rounds, Derivable-rows-mean-what-rows-mean, Refuted-means-attacker-wins, Relation-keeps-attacker-from-winning, More-rounds-do-no-harm, Closed-lists-hold-every-derivable-row, Refines-exactly-when-not-refuted, Attacker-wins-exactly-when-refuted, Saturated-rows-decide, Saturated-rows-exist, Attacker-wins-or-station-refines, Members-of-an-enter-are-what-replies-lead-to, Members-of-a-join-are-both-rows, Same-members-same-list, Derivable-depends-on-the-rules-alone, Different-rows-are-no-more-than-the-list, Rows-fit-by-width-and-number, Computed-joins-are-the-joins, Computed-called-for-is-called-for};
 
 // Attacks and replies are exactly the transitions that the two clauses of refinement speak of: may transitions of the
 // station answered by may transitions of the manual, must transitions of the manual by must transitions of the station.
@@ -54,8 +54,8 @@ pub fn more_rounds_do_no_harm() -> u8
 }
 
 // The derivable rows are closed under enter on called-for heads and under join, and every closed list contains them all.
-pub fn derivable_rows_are_the_least_closed_list() -> u8
-    ensures { λ _. ⌜ Derivable-rows-are-the-least-closed-list ⌝ }
+pub fn closed_lists_hold_every_derivable_row() -> u8
+    ensures { λ _. ⌜ Closed-lists-hold-every-derivable-row ⌝ }
 {
     0
 }

@@ -1,9 +1,6 @@
 use mathlib.Core.Path.{_≡_, refl, sym, ap, _∙_}
-use mathlib.Core.List.{List}
 use Rattle.std.proofs.shelf.Equals.{matches-decides}
-use Rattle.game.specs.declared.Head.{Head}
-use Rattle.game.specs.declared.Member.{Member}
-use Rattle.game.specs.Members.{Attack-row, members-of}
+use Rattle.game.specs.Members.{Attack-row}
 use Rattle.game.proofs.Row.same_row.Needs as need
 
 pub returns-then-eq : need.returns-then-eq
