@@ -6,8 +6,17 @@ ghost use Rattle.profile.specs.Rules.{rule-key, lawful-rule, Lawful-rule};
 ghost use Rattle.std.specs.Orderings.{Decides};
 use ordered::Keyed;
 
+mod event_set;
+mod interface;
+mod layers;
+mod open_profile;
 mod table;
 
+pub use interface::Profile;
+pub use layers::Bare;
+pub use layers::BareProfile;
+pub use open_profile::OpenProfile;
+pub use open_profile::OpenProfileProfile;
 pub use table::Table;
 pub use table::calls::NotAdded;
 pub use table::calls::OutOfRange;

@@ -1,0 +1,29 @@
+-- What each layer makes of a slot of the profile below, and what that makes of its may rules and its must rules.
+use Prim.Native.Nat.{ℕ}
+use mathlib.Core.Path.{_≡_}
+use mathlib.Core.Bool.{Bool, true, false, cond}
+use mathlib.Core.List.{List, [], _∷_, map}
+use lib.ListN.{getD}
+use Rattle.std.specs.declared.option.Option.{Option}
+use Rattle.std.specs.declared.option.Option.the-variants.{Some, None}
+use Rattle.profile.specs.declared.Mode.{Mode}
+use Rattle.profile.specs.declared.Mode.the-variants.{May, Must}
+use Rattle.profile.specs.declared.Rule.{Rule}
+
+-- bare: a may rule goes, a must rule stays
+abbrev pub bare-rule : Mode → Rule → Option Rule
+bare-rule May r = None
+bare-rule Must r = Some r
+
+abbrev pub bare-slot : Option Rule → Option Rule
+bare-slot None = None
+bare-slot (Some r) = bare-rule (r .mode) r
+
+-- loosen: a rule whose event is in the set becomes a may rule
+abbrev pub loosen-rule : List Bool → Rule → Rule
+loosen-rule events r =
+    record { mode = cond (getD events (r .event) false) May (r .mode); state = r .state; top = r .top; event = r .event; next = r .next; upper = r .upper; lower = r .lower }
+
+abbrev pub loosen-slot : List Bool → Option Rule → Option Rule
+loosen-slot events None = None
+loosen-slot events (Some r) = Some (loosen-rule events r)
