@@ -7,12 +7,15 @@ use lib.ListN.{length, getD, length-map, List·getD-map}
 use Rattle.std.specs.declared.option.Option.{Option}
 use Rattle.std.specs.declared.option.Option.the-variants.{Some, None}
 use Rattle.profile.specs.declared.Kind.{Kind}
+use Rattle.profile.specs.declared.event_table.EventTable.{EventTable}
 use Rattle.profile.specs.declared.Mode.{Mode}
 use Rattle.profile.specs.declared.Mode.the-variants.{May, Must}
 use Rattle.profile.specs.declared.Rule.{Rule}
 use Rattle.profile.specs.Rules.{Lawful-rule}
 use Rattle.profile.specs.Profiles.{Lawful-slot, Lawful-slots, Lawful-profile}
-use Rattle.profile.specs.Layers.{bare-rule, bare-slot, loosen-rule, loosen-slot}
+use Rattle.profile.specs.Kinds.{event-kind, keeps-kinds}
+use Rattle.profile.specs.Layers.{bare-rule, bare-slot, loosen-rule, loosen-slot, rename-rule, rename-slot}
+use Rattle.profile.proofs.Renames.{table-kept, formed-event}
 
 pub slot-mapped : (f : Option Rule → Option Rule) → f None ≡ None → (slots : List (Option Rule)) (i : ℕ) (s : Option Rule) → s ≡ getD slots i None → f s ≡ getD (map f slots) i None
 slot-mapped f empty slots i s is =
@@ -39,3 +42,8 @@ module _ (kinds : ℕ → Option Kind) where
   loosen-keeps events None law = tt
   loosen-keeps events (Some r) law =
       record { state = law .state; next = law .next; top = law .top; upper = law .upper; lower = law .lower; form = law .form }
+
+pub rename-keeps : (table : EventTable) (s : Option Rule) → Lawful-slot event-kind s → Lawful-slot event-kind (rename-slot table s)
+rename-keeps table None law = tt
+rename-keeps table (Some r) law =
+    record { state = law .state; next = law .next; top = law .top; upper = law .upper; lower = law .lower; form = rw (table-kept (table .events) (table .keeps) (r .event) (formed-event (r .event) (r .upper) (r .lower) (law .form)) .1) (law .form) }

@@ -6,6 +6,7 @@ use mathlib.Core.List.{List, [], _∷_, map}
 use lib.ListN.{getD}
 use Rattle.std.specs.declared.option.Option.{Option}
 use Rattle.std.specs.declared.option.Option.the-variants.{Some, None}
+use Rattle.profile.specs.declared.event_table.EventTable.{EventTable}
 use Rattle.profile.specs.declared.Mode.{Mode}
 use Rattle.profile.specs.declared.Mode.the-variants.{May, Must}
 use Rattle.profile.specs.declared.Rule.{Rule}
@@ -27,3 +28,12 @@ loosen-rule events r =
 abbrev pub loosen-slot : List Bool → Option Rule → Option Rule
 loosen-slot events None = None
 loosen-slot events (Some r) = Some (loosen-rule events r)
+
+-- rename: the event is replaced by what the table has for it, all else stays
+abbrev pub rename-rule : EventTable → Rule → Rule
+rename-rule table r =
+    record { mode = r .mode; state = r .state; top = r .top; event = getD (table .events) (r .event) 0; next = r .next; upper = r .upper; lower = r .lower }
+
+abbrev pub rename-slot : EventTable → Option Rule → Option Rule
+rename-slot table None = None
+rename-slot table (Some r) = Some (rename-rule table r)

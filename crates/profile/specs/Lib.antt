@@ -5,3 +5,4 @@ pub mod Profiles
 pub mod Tables
 pub mod Opens
 pub mod Layers
+pub mod Renaming

@@ -6,15 +6,22 @@ ghost use Rattle.profile.specs.Rules.{rule-key, lawful-rule, Lawful-rule};
 ghost use Rattle.std.specs.Orderings.{Decides};
 use ordered::Keyed;
 
-mod event_set;
+mod entries;
+mod event_table;
 mod interface;
 mod layers;
 mod open_profile;
 mod table;
 
+pub use event_table::EventTable;
+pub use event_table::calls::NotRenaming;
 pub use interface::Profile;
 pub use layers::Bare;
 pub use layers::BareProfile;
+pub use layers::Loosen;
+pub use layers::LoosenProfile;
+pub use layers::Rename;
+pub use layers::RenameProfile;
 pub use open_profile::OpenProfile;
 pub use open_profile::OpenProfileProfile;
 pub use table::Table;

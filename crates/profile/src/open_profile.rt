@@ -4,7 +4,7 @@ ghost use Rattle.profile.specs.Opens.{open-slots};
 use crate::Mode;
 use crate::Profile;
 use crate::Rule;
-use crate::event_set::has_event;
+use crate::entries::entry_or;
 
 #[derive(Clone, Copy, Debug)]
 pub struct OpenProfile {
@@ -30,7 +30,7 @@ pub impl Profile for OpenProfile as OpenProfileProfile {
     }
 
     fn slot(&self, i: usize) -> Option<Rule> {
-        if i < 12 && has_event(&self.events, i) {
+        if i < 12 && entry_or(&self.events, i, false) {
             Some(Rule {
                 mode: Mode::May,
                 state: 0,
