@@ -3,15 +3,15 @@ use Prim.Native.Nat.{ℕ, zero, suc, _+_, _<_, _≤_}
 use native.Mathlib.Omega.{arith}
 use mathlib.Core.Path.{_≡_, refl, sym, ap, subst, _∙_}
 use mathlib.Core.Bool.{Bool, true, false, _&&_}
-use mathlib.Core.List.{List, [], _∷_}
+use mathlib.Core.List.{List, [], _∷_, map}
 use mathlib.Core.Logic.{_⊎_, inl, inr}
 use lib.Dec.{ltb, eqb}
-use lib.ListN.{length, getD, take}
+use lib.ListN.{length, getD, take, length-map}
 use Rattle.std.specs.Orderings.{Decides}
 use Rattle.std.proofs.shelf.Tests.{ltb-true, lt-ltb, eqb-true, eq-eqb, and-parts, and-from, both-ways}
 use Rattle.std.specs.declared.option.Option.{Option}
 use Rattle.std.specs.declared.option.Option.the-variants.{Some, None}
-use Rattle.std.proofs.shelf.Lists.{length-take, length-take-le}
+use Rattle.std.proofs.shelf.Lists.{length-take, length-take-le, getD-past}
 use Rattle.ordered.specs.Lex.{lex-le}
 use Rattle.ordered.specs.Laws.{In, Placed}
 use Rattle.ordered.proofs.Orders.{ascending-from-test, test-from-ascending}
@@ -20,7 +20,8 @@ use Rattle.profile.specs.declared.Kind.the-variants.{Open, Step, Close}
 use Rattle.profile.specs.declared.Rule.{Rule}
 use Rattle.profile.specs.Kinds.{event-kind}
 use Rattle.profile.specs.Rules.{Form, Formed, formed, Lawful-rule, lawful-rule, all-lawful, rule-key, rule-le, rules-ascend}
-use Rattle.profile.specs.Tables.{slot-at, Lawful-table}
+use Rattle.profile.specs.Profiles.{Lawful-slots, Lawful-profile}
+use Rattle.profile.specs.Tables.{Lawful-table}
 
 formed-means : (k : Option Kind) (u l : ℕ) → formed k u l ≡ true → Formed k u l
 formed-means None u l e = both-ways false refl e
@@ -61,15 +62,13 @@ module _ (kinds : ℕ → Option Kind) where
   all-lawful-from [] h = refl
   all-lawful-from (r ∷ rs) h = and-from _ _ (lawful-shown r (h r (inl refl))) (all-lawful-from rs (λ s k. h s (inr k)))
 
-pub slot-inside : (rs : List Rule) (i : ℕ) (d : Rule) → i < length rs → Some (getD rs i d) ≡ slot-at rs i
+pub slot-inside : (rs : List Rule) (i : ℕ) (d : Rule) → i < length rs → Some (getD rs i d) ≡ getD (map Some rs) i None
 slot-inside [] i d h = absurd (omega arith)
 slot-inside (r ∷ rs) zero d h = refl
 slot-inside (r ∷ rs) (suc i) d h = slot-inside rs i d (omega arith)
 
-pub slot-past : (rs : List Rule) (i : ℕ) → length rs ≤ i → None ≡ slot-at rs i
-slot-past [] i h = refl
-slot-past (r ∷ rs) zero h = absurd (omega arith)
-slot-past (r ∷ rs) (suc i) h = slot-past rs i (omega arith)
+pub slot-past : (rs : List Rule) (i : ℕ) → length rs ≤ i → None ≡ getD (map Some rs) i None
+slot-past rs i h = sym (getD-past (map Some rs) i None (simp length-map h))
 
 -- one rule more keeps all that a table keeps
 pub one-more : (was is : List Rule) (r : Rule) (at : ℕ) → Placed rule-key lex-le r was is at → lawful-rule event-kind r ≡ true → all-lawful event-kind was ≡ true → rules-ascend was ≡ true → (all-lawful event-kind is ≡ true) × (rules-ascend is ≡ true)
@@ -96,3 +95,12 @@ room-was-left was is r count at full kept few p =
     let b = length-take-le count was (omega arith) in
     let l = p .longer in
     omega arith
+
+-- the law of a table, read as that of a profile with one rule to a slot
+slots-lawful : (rs : List Rule) → ((r : Rule) → In r rs → Lawful-rule event-kind r) → Lawful-slots event-kind (map Some rs)
+slots-lawful [] h = tt
+slots-lawful (r ∷ rs) h = (h r (inl refl), slots-lawful rs (λ s k. h s (inr k)))
+
+pub table-profile-law : (rs : List Rule) (start : ℕ × ℕ) → Lawful-table rs start → Lawful-profile event-kind (map Some rs) start
+table-profile-law rs start law =
+    record { few = simp length-map (law .few); each = slots-lawful rs (law .lawful); state = law .state; symbol = law .symbol }

@@ -1,11 +1,9 @@
 -- The table profile.
-use Prim.Native.Nat.{ℕ, zero, suc, _<_, _≤_}
+use Prim.Native.Nat.{ℕ, _<_, _≤_}
 use mathlib.Core.Bool.{Bool, true, false, cond, _&&_}
 use mathlib.Core.List.{List, [], _∷_}
 use lib.Dec.{ltb}
 use lib.ListN.{length, take}
-use Rattle.std.specs.declared.option.Option.{Option}
-use Rattle.std.specs.declared.option.Option.the-variants.{Some, None}
 use Rattle.std.specs.declared.result.Result.{Result}
 use Rattle.std.specs.declared.result.Result.the-variants.{Ok, Err}
 use Rattle.ordered.specs.Insert.{place-of, present, insert-into}
@@ -46,12 +44,6 @@ start-answer state symbol = cond (ltb state 8 && ltb symbol 16) (Ok tt) (Err (re
 abbrev pub start-after : ℕ → ℕ → ℕ × ℕ → Result (Unit {0}) OutOfRange → ℕ × ℕ
 start-after state symbol was (Ok done) = (state, symbol)
 start-after state symbol was (Err why) = was
-
--- what slot i holds: one rule, or nothing from the number of rules on
-abbrev pub slot-at : List Rule → ℕ → Option Rule
-slot-at [] i = None
-slot-at (r ∷ rs) zero = Some r
-slot-at (r ∷ rs) (suc i) = slot-at rs i
 
 -- What every table keeps: at most 96 rules, each lawful, strictly ascending, and a start in range.
 pub record Lawful-table (rules : List Rule) (start : ℕ × ℕ) : Type 0 where

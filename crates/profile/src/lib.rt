@@ -27,6 +27,7 @@ pub use open_profile::OpenProfileProfile;
 pub use table::Table;
 pub use table::calls::NotAdded;
 pub use table::calls::OutOfRange;
+pub use table::calls::TableProfile;
 
 // How binding a rule is: what may happen, or what also must. A must rule counts as a may rule too.
 #[derive(Clone, Copy, PartialEq, Eq, Debug)]

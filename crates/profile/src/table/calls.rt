@@ -1,9 +1,11 @@
 // Making a table profile and asking it.
 ghost use mathlib.Core.Path.{_≡_};
-ghost use mathlib.Core.List.{[]};
-ghost use lib.ListN.{length};
-ghost use Rattle.profile.specs.Tables.{table-rules, table-start, add-answer, add-after, start-answer, start-after, slot-at, Lawful-table};
+ghost use mathlib.Core.List.{[], map};
+ghost use lib.ListN.{length, getD};
+ghost use Rattle.std.specs.declared.option.Option.the-variants.{Some, None};
+ghost use Rattle.profile.specs.Tables.{table-rules, table-start, add-answer, add-after, start-answer, start-after, Lawful-table};
 use crate::Mode;
+use crate::Profile;
 use crate::Rule;
 use crate::RuleKeyed;
 use crate::Table;
@@ -80,29 +82,46 @@ impl Table {
         Ok(())
     }
 
-    // How many rules there are, one to a slot.
-    pub fn slots(&self) -> usize
-        ensures value { λ r. ⌜ r ≡ length (table-rules (now (self .entry))) ⌝ }
+    // The rules, one to a slot, in the order of their keys.
+    pub fn rules(&self) -> &[Rule]
+        ensures value { λ r. ⌜ now r ≡ table-rules (now (self .entry)) ⌝ }
         ensures law { λ _. ⌜ Lawful-table (table-rules (now (self .entry))) (table-start (now (self .entry))) ⌝ }
     {
-        self.count
+        &self.rules[0..self.count]
+    }
+}
+
+// The slots of a row of rules, one to a slot.
+fn rule_slots(rules: &[Rule]) -> usize
+    ensures { λ r. ⌜ r ≡ length (map Some (now (rules .entry))) ⌝ }
+{
+    rules.len()
+}
+
+fn rule_slot(rules: &[Rule], i: usize) -> Option<Rule>
+    ensures { λ r. ⌜ r ≡ getD (map Some (now (rules .entry))) i None ⌝ }
+{
+    if i < rules.len() {
+        Some(rules[i])
+    } else {
+        None
+    }
+}
+
+pub impl Profile for Table as TableProfile {
+    ghost rules = { λ t. map Some (table-rules t) };
+
+    ghost origin = { table-start };
+
+    fn slots(&self) -> usize {
+        rule_slots(self.rules())
     }
 
-    // The rule in slot i, or nothing from the number of rules on.
-    pub fn slot(&self, i: usize) -> Option<Rule>
-        ensures { λ r. ⌜ r ≡ slot-at (table-rules (now (self .entry))) i ⌝ }
-    {
-        if i < self.count {
-            Some(self.rules[i])
-        } else {
-            None
-        }
+    fn slot(&self, i: usize) -> Option<Rule> {
+        rule_slot(self.rules(), i)
     }
 
-    // The state and the stack symbol that the profile starts with.
-    pub fn start(&self) -> (u8, u8)
-        ensures { λ r. ⌜ r ≡ table-start (now (self .entry)) ⌝ }
-    {
+    fn start(&self) -> (u8, u8) {
         (self.state, self.symbol)
     }
 }
