@@ -10,6 +10,8 @@ use Rattle.profile.specs.declared.event_table.EventTable.{EventTable}
 use Rattle.profile.specs.declared.Mode.{Mode}
 use Rattle.profile.specs.declared.Mode.the-variants.{May, Must}
 use Rattle.profile.specs.declared.Rule.{Rule}
+use Rattle.profile.specs.Rules.{rule-key}
+use Rattle.profile.specs.Profiles.{May-rule, Must-rule, Just-when}
 
 -- bare: a may rule goes, a must rule stays
 abbrev pub bare-rule : Mode → Rule → Option Rule
@@ -20,6 +22,9 @@ abbrev pub bare-slot : Option Rule → Option Rule
 bare-slot None = None
 bare-slot (Some r) = bare-rule (r .mode) r
 
+abbrev pub bare-slots : List (Option Rule) → List (Option Rule)
+bare-slots = map bare-slot
+
 -- loosen: a rule whose event is in the set becomes a may rule
 abbrev pub loosen-rule : List Bool → Rule → Rule
 loosen-rule events r =
@@ -29,6 +34,9 @@ abbrev pub loosen-slot : List Bool → Option Rule → Option Rule
 loosen-slot events None = None
 loosen-slot events (Some r) = Some (loosen-rule events r)
 
+abbrev pub loosen-slots : List Bool → List (Option Rule) → List (Option Rule)
+loosen-slots events = map (loosen-slot events)
+
 -- rename: the event is replaced by what the table has for it, all else stays
 abbrev pub rename-rule : EventTable → Rule → Rule
 rename-rule table r =
@@ -37,3 +45,22 @@ rename-rule table r =
 abbrev pub rename-slot : EventTable → Option Rule → Option Rule
 rename-slot table None = None
 rename-slot table (Some r) = Some (rename-rule table r)
+
+abbrev pub rename-slots : EventTable → List (Option Rule) → List (Option Rule)
+rename-slots table = map (rename-slot table)
+
+-- What the layers come to, from the slots below to those above. Bare: the must rules are those below, and no others
+-- are may rules.
+pub record Bared (below above : List (Option Rule)) : Type 0 where
+  pub must : (r : Rule) → Just-when (Must-rule above r) (Must-rule below r)
+  pub may : (r : Rule) → Just-when (May-rule above r) (Must-rule below r)
+
+-- Loosen: the may rules are those below, the must rules those below whose event is not in the set.
+pub record Loosened (events : List Bool) (below above : List (Option Rule)) : Type 0 where
+  pub may : (r : Rule) → Just-when (May-rule above r) (May-rule below r)
+  pub must : (r : Rule) → Just-when (Must-rule above r) (Must-rule below r × (getD events (r .event) false ≡ false))
+
+-- Rename: the may rules are those below with the event replaced, and so are the must rules.
+pub record Renamed (table : EventTable) (below above : List (Option Rule)) : Type 0 where
+  pub may : (r : Rule) → Just-when (May-rule above r) ((s : Rule) × May-rule below s × (rule-key (rename-rule table s) ≡ rule-key r))
+  pub must : (r : Rule) → Just-when (Must-rule above r) ((s : Rule) × Must-rule below s × (rule-key (rename-rule table s) ≡ rule-key r))

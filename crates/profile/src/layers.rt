@@ -5,7 +5,7 @@ ghost use lib.ListN.{length, getD};
 ghost use Rattle.std.specs.declared.option.Option.{Option};
 ghost use Rattle.std.specs.declared.option.Option.the-variants.{None};
 ghost use Rattle.profile.specs.declared.Rule.{Rule};
-ghost use Rattle.profile.specs.Layers.{bare-slot, loosen-slot, rename-slot};
+ghost use Rattle.profile.specs.Layers.{bare-slot, bare-slots, Bared, loosen-slot, loosen-slots, Loosened, rename-slot, rename-slots, Renamed};
 use crate::EventTable;
 use crate::Mode;
 use crate::Profile;
@@ -32,9 +32,10 @@ pub struct Bare<P> {
     below: P,
 }
 
-impl<P> Bare<P> {
+impl<P: Profile> Bare<P> {
     pub fn new(below: P) -> Bare<P>
-        ensures { λ r. ⌜ r .below ≡ below ⌝ }
+        ensures value { λ r. ⌜ r .below ≡ below ⌝ }
+        ensures meaning { λ _. ⌜ Bared (P·Profile .rules below) (bare-slots (P·Profile .rules below)) ⌝ }
     {
         Bare { below }
     }
@@ -53,7 +54,7 @@ fn bared(slot: Option<Rule>) -> Option<Rule>
 }
 
 pub impl<P: Profile> Profile for Bare<P> as BareProfile {
-    ghost rules = { λ p. map bare-slot (P·Profile .rules (p .below)) };
+    ghost rules = { λ p. bare-slots (P·Profile .rules (p .below)) };
 
     ghost origin = { λ p. P·Profile .origin (p .below) };
 
@@ -77,10 +78,11 @@ pub struct Loosen<P> {
     below: P,
 }
 
-impl<P> Loosen<P> {
+impl<P: Profile> Loosen<P> {
     pub fn new(events: [bool; 12], below: P) -> Loosen<P>
-        ensures events { λ r. ⌜ r .events ≡ events ⌝ }
-        ensures below { λ r. ⌜ r .below ≡ below ⌝ }
+        ensures set { λ r. ⌜ r .events ≡ events ⌝ }
+        ensures value { λ r. ⌜ r .below ≡ below ⌝ }
+        ensures meaning { λ _. ⌜ Loosened events (P·Profile .rules below) (loosen-slots events (P·Profile .rules below)) ⌝ }
     {
         Loosen { events, below }
     }
@@ -105,7 +107,7 @@ fn loosened(events: &[bool], slot: Option<Rule>) -> Option<Rule>
 }
 
 pub impl<P: Profile> Profile for Loosen<P> as LoosenProfile {
-    ghost rules = { λ p. map (loosen-slot (p .events)) (P·Profile .rules (p .below)) };
+    ghost rules = { λ p. loosen-slots (p .events) (P·Profile .rules (p .below)) };
 
     ghost origin = { λ p. P·Profile .origin (p .below) };
 
@@ -129,10 +131,11 @@ pub struct Rename<P> {
     below: P,
 }
 
-impl<P> Rename<P> {
+impl<P: Profile> Rename<P> {
     pub fn new(table: EventTable, below: P) -> Rename<P>
-        ensures table { λ r. ⌜ r .table ≡ table ⌝ }
-        ensures below { λ r. ⌜ r .below ≡ below ⌝ }
+        ensures names { λ r. ⌜ r .table ≡ table ⌝ }
+        ensures value { λ r. ⌜ r .below ≡ below ⌝ }
+        ensures meaning { λ _. ⌜ Renamed table (P·Profile .rules below) (rename-slots table (P·Profile .rules below)) ⌝ }
     {
         Rename { table, below }
     }
@@ -151,7 +154,7 @@ fn renamed(table: &EventTable, slot: Option<Rule>) -> Option<Rule>
 }
 
 pub impl<P: Profile> Profile for Rename<P> as RenameProfile {
-    ghost rules = { λ p. map (rename-slot (p .table)) (P·Profile .rules (p .below)) };
+    ghost rules = { λ p. rename-slots (p .table) (P·Profile .rules (p .below)) };
 
     ghost origin = { λ p. P·Profile .origin (p .below) };
 

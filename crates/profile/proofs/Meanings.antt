@@ -1,0 +1,151 @@
+-- What the layers make of may rules and must rules, slot by slot.
+use Prim.Native.Nat.{ℕ}
+use native.Mathlib.Omega.{arith}
+use mathlib.Core.Path.{_≡_, refl, sym, ap, subst, _∙_}
+use mathlib.Core.Bool.{Bool, true, false, cond}
+use mathlib.Core.List.{List, [], _∷_, map}
+use mathlib.Core.Logic.{_⊎_, inl, inr}
+use lib.ListN.{getD}
+use Rattle.std.specs.declared.option.Option.{Option}
+use Rattle.std.specs.declared.option.Option.the-variants.{Some, None}
+use Rattle.profile.specs.declared.event_table.EventTable.{EventTable}
+use Rattle.profile.specs.declared.Mode.{Mode}
+use Rattle.profile.specs.declared.Mode.the-variants.{May, Must}
+use Rattle.profile.specs.declared.Rule.{Rule}
+use Rattle.profile.specs.Rules.{rule-key}
+use Rattle.profile.specs.Profiles.{Allows, Demands, Some-slot, May-rule, Must-rule, Just-when}
+use Rattle.profile.specs.Layers.{bare-rule, bare-slot, bare-slots, Bared, loosen-rule, loosen-slot, loosen-slots, Loosened, rename-rule, rename-slot, rename-slots, Renamed}
+
+-- from what holds of a slot above to what holds of the slot below it, and back
+module _ (f : Option Rule → Option Rule) (P Q : Option Rule → Type 0) where
+  some-below : ((s : Option Rule) → P (f s) → Q s) → (slots : List (Option Rule)) → Some-slot P (map f slots) → Some-slot Q slots
+  some-below at [] h = absurd h
+  some-below at (s ∷ ss) (inl h) = inl (at s h)
+  some-below at (s ∷ ss) (inr h) = inr (some-below at ss h)
+
+  some-above : ((s : Option Rule) → Q s → P (f s)) → (slots : List (Option Rule)) → Some-slot Q slots → Some-slot P (map f slots)
+  some-above at [] h = absurd h
+  some-above at (s ∷ ss) (inl h) = inl (at s h)
+  some-above at (s ∷ ss) (inr h) = inr (some-above at ss h)
+
+-- rules with the same key have the same event
+same-event : (s r : Rule) → rule-key s ≡ rule-key r → s .event ≡ r .event
+same-event s r e = ap (λ (l : List ℕ). getD l 2 0) e
+
+-- May is not Must
+modes-differ : May ≡ Must → ⊥
+modes-differ e = let z : _≡_ {A = ℕ} 0 1 = cc in omega arith
+
+-- bare
+bare-demands : (r : Rule) (s : Option Rule) → Demands r (bare-slot s) → Demands r s
+bare-demands r None d = absurd d
+bare-demands r (Some s) d = at (s .mode) refl d where
+  at : (m : Mode) → s .mode ≡ m → Demands r (bare-rule m s) → Demands r (Some s)
+  at May is b = absurd b
+  at Must is b = b
+
+bare-allows : (r : Rule) (s : Option Rule) → Allows r (bare-slot s) → Demands r s
+bare-allows r None a = absurd a
+bare-allows r (Some s) a = at (s .mode) refl a where
+  at : (m : Mode) → s .mode ≡ m → Allows r (bare-rule m s) → Demands r (Some s)
+  at May is b = absurd b
+  at Must is b = (is, b)
+
+demands-bare : (r : Rule) (s : Option Rule) → Demands r s → Demands r (bare-slot s)
+demands-bare r None d = absurd d
+demands-bare r (Some s) d = at (s .mode) (d .0) where
+  at : (m : Mode) → m ≡ Must → Demands r (bare-rule m s)
+  at May is = absurd (modes-differ is)
+  at Must is = d
+
+allows-bare : (r : Rule) (s : Option Rule) → Demands r s → Allows r (bare-slot s)
+allows-bare r None d = absurd d
+allows-bare r (Some s) d = at (s .mode) (d .0) where
+  at : (m : Mode) → m ≡ Must → Allows r (bare-rule m s)
+  at May is = absurd (modes-differ is)
+  at Must is = d .1
+
+pub bare-means : (slots : List (Option Rule)) → Bared slots (bare-slots slots)
+bare-means slots = record {
+  must = λ r. (some-below bare-slot (Demands r) (Demands r) (bare-demands r) slots, some-above bare-slot (Demands r) (Demands r) (demands-bare r) slots);
+  may = λ r. (some-below bare-slot (Allows r) (Demands r) (bare-allows r) slots, some-above bare-slot (Allows r) (Demands r) (allows-bare r) slots);
+}
+
+-- loosen
+loosen-allows : (events : List Bool) (r : Rule) (s : Option Rule) → Allows r (loosen-slot events s) → Allows r s
+loosen-allows events r None a = absurd a
+loosen-allows events r (Some s) a = a
+
+allows-loosen : (events : List Bool) (r : Rule) (s : Option Rule) → Allows r s → Allows r (loosen-slot events s)
+allows-loosen events r None a = absurd a
+allows-loosen events r (Some s) a = a
+
+still-must : (b : Bool) (m : Mode) → cond b May m ≡ Must → (b ≡ false) × (m ≡ Must)
+still-must true m e = absurd (modes-differ e)
+still-must false m e = (refl, e)
+
+loosen-demands : (events : List Bool) (r : Rule) (s : Option Rule) → Demands r (loosen-slot events s) → Demands r s
+loosen-demands events r None d = absurd d
+loosen-demands events r (Some s) d = (still-must (getD events (s .event) false) (s .mode) (d .0) .1, d .1)
+
+loosen-spares : (events : List Bool) (r : Rule) (s : Option Rule) → Demands r (loosen-slot events s) → getD events (r .event) false ≡ false
+loosen-spares events r None d = absurd d
+loosen-spares events r (Some s) d =
+    ap (λ (e : ℕ). getD events e false) (sym (same-event s r (d .1))) ∙ still-must (getD events (s .event) false) (s .mode) (d .0) .0
+
+demands-loosen : (events : List Bool) (r : Rule) → getD events (r .event) false ≡ false → (s : Option Rule) → Demands r s → Demands r (loosen-slot events s)
+demands-loosen events r out None d = absurd d
+demands-loosen events r out (Some s) d =
+    (ap (λ (b : Bool). cond b May (s .mode)) (ap (λ (e : ℕ). getD events e false) (same-event s r (d .1)) ∙ out) ∙ d .0, d .1)
+
+pub loosen-means : (events : List Bool) (slots : List (Option Rule)) → Loosened events slots (loosen-slots events slots)
+loosen-means events slots = record {
+  may = λ r. (some-below (loosen-slot events) (Allows r) (Allows r) (loosen-allows events r) slots, some-above (loosen-slot events) (Allows r) (Allows r) (allows-loosen events r) slots);
+  must = λ r. (
+    λ h. (some-below (loosen-slot events) (Demands r) (Demands r) (loosen-demands events r) slots h, shown-below r slots h),
+    λ h. some-above (loosen-slot events) (Demands r) (Demands r) (demands-loosen events r (h .1)) slots (h .0),
+  );
+} where
+  shown-below : (r : Rule) (slots : List (Option Rule)) → Must-rule (loosen-slots events slots) r → getD events (r .event) false ≡ false
+  shown-below r [] h = absurd h
+  shown-below r (s ∷ ss) (inl h) = loosen-spares events r s h
+  shown-below r (s ∷ ss) (inr h) = shown-below r ss h
+
+-- rename
+module _ (table : EventTable) where
+  new-key : List ℕ → List ℕ
+  new-key [] = []
+  new-key (state ∷ []) = []
+  new-key (state ∷ top ∷ []) = []
+  new-key (state ∷ top ∷ event ∷ rest) = state ∷ top ∷ getD (table .events) event 0 ∷ rest
+
+  -- the key of a renamed rule depends only on the key
+  renamed-key : (u s : Rule) → rule-key u ≡ rule-key s → rule-key (rename-rule table u) ≡ rule-key (rename-rule table s)
+  unfolding new-key
+  renamed-key u s e = ap new-key e
+
+  may-below : (r : Rule) (slots : List (Option Rule)) → May-rule (rename-slots table slots) r → (s : Rule) × May-rule slots s × (rule-key (rename-rule table s) ≡ rule-key r)
+  may-below r [] h = absurd h
+  may-below r (None ∷ ss) (inl h) = absurd h
+  may-below r (Some s ∷ ss) (inl h) = (s, inl refl, h)
+  may-below r (s ∷ ss) (inr h) = let p = may-below r ss h in (p .0, inr (p .1), p .2)
+
+  must-below : (r : Rule) (slots : List (Option Rule)) → Must-rule (rename-slots table slots) r → (s : Rule) × Must-rule slots s × (rule-key (rename-rule table s) ≡ rule-key r)
+  must-below r [] h = absurd h
+  must-below r (None ∷ ss) (inl h) = absurd h
+  must-below r (Some s ∷ ss) (inl h) = (s, inl (h .0, refl), h .1)
+  must-below r (s ∷ ss) (inr h) = let p = must-below r ss h in (p .0, inr (p .1), p .2)
+
+  allows-renamed : (r s : Rule) → rule-key (rename-rule table s) ≡ rule-key r → (u : Option Rule) → Allows s u → Allows r (rename-slot table u)
+  allows-renamed r s e None a = absurd a
+  allows-renamed r s e (Some u) a = renamed-key u s a ∙ e
+
+  demands-renamed : (r s : Rule) → rule-key (rename-rule table s) ≡ rule-key r → (u : Option Rule) → Demands s u → Demands r (rename-slot table u)
+  demands-renamed r s e None d = absurd d
+  demands-renamed r s e (Some u) d = (d .0, renamed-key u s (d .1) ∙ e)
+
+  pub rename-means : (slots : List (Option Rule)) → Renamed table slots (rename-slots table slots)
+  rename-means slots = record {
+    may = λ r. (may-below r slots, λ h. some-above (rename-slot table) (Allows r) (Allows (h .0)) (allows-renamed r (h .0) (h .2)) slots (h .1));
+    must = λ r. (must-below r slots, λ h. some-above (rename-slot table) (Demands r) (Demands (h .0)) (demands-renamed r (h .0) (h .2)) slots (h .1));
+  }
