@@ -11,6 +11,8 @@ mod event_table;
 mod interface;
 mod layers;
 mod open_profile;
+#[cfg(test)]
+mod piles;
 mod table;
 
 pub use event_table::EventTable;
