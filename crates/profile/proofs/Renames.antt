@@ -11,12 +11,10 @@ use Rattle.std.proofs.shelf.Tests.{eqb-true, eq-eqb, and-parts, and-from, both-
 use Rattle.std.specs.Iters.{counting}
 use Rattle.std.specs.declared.option.Option.{Option}
 use Rattle.std.specs.declared.option.Option.the-variants.{Some, None}
-use Rattle.std.specs.declared.result.Result.the-variants.{Ok, Err}
 use Rattle.profile.specs.declared.Kind.{Kind}
 use Rattle.profile.specs.declared.Kind.the-variants.{Open, Step, Close}
 use Rattle.profile.specs.Kinds.{event-kind, symbols-used, same-kind, all-kept, keeps-kinds}
 use Rattle.profile.specs.Rules.{Formed}
-use Rattle.profile.specs.Renaming.{renaming-answer}
 
 -- a kind is known by how many symbols it uses
 one-kind : (j k : Kind) → symbols-used j ≡ symbols-used k → j ≡ k
@@ -93,19 +91,16 @@ pub table-kept : (events : List ℕ) → keeps-kinds event-kind events ≡ true 
 unfolding keeps-kinds
 table-kept events keeps e h = kept-event (getD events e 0) e (each-kept event-kind events 0 12 keeps e (omega arith) (omega arith))
 
-pub taken-answer : (events : List ℕ) → keeps-kinds event-kind events ≡ true → Ok events ≡ renaming-answer events
-taken-answer events keeps = sym (cond-true _ _ _ keeps)
-
 pub refused-kind : (events : List ℕ) (e : ℕ) → e < 12 → same-kind (event-kind (getD events e 0)) (event-kind e) ≡ false → event-kind (getD events e 0) ≡ event-kind e → ⊥
 refused-kind events e h off = differ (event-kind (getD events e 0)) (event-kind e) (event-there e h) off
 
-pub refused-answer : (events : List ℕ) (e : ℕ) → e < 12 → same-kind (event-kind (getD events e 0)) (event-kind e) ≡ false → Err (record {}) ≡ renaming-answer events
+pub table-broken : (events : List ℕ) (e : ℕ) → e < 12 → same-kind (event-kind (getD events e 0)) (event-kind e) ≡ false → keeps-kinds event-kind events ≡ false
 unfolding keeps-kinds
-refused-answer events e h off =
-    sym (cond-false (keeps-kinds event-kind events) (Ok events) (Err (record {})) (elim (cases-bool (keeps-kinds event-kind events)) [
+table-broken events e h off =
+    elim (cases-bool (all-kept event-kind events (counting 0 12))) [
       | inl on ↦ absurd (both-ways (same-kind (event-kind (getD events e 0)) (event-kind e)) off (each-kept event-kind events 0 12 on e (omega arith) (omega arith)))
-      | inr no′ ↦ no′
-    ]))
+      | inr broken ↦ broken
+    ]
 
 -- a rule has a form only where there is its event
 pub formed-event : (e upper lower : ℕ) → Formed (event-kind e) upper lower → e < 12

@@ -23,10 +23,16 @@ renaming-told (Err why) = Err why
 abbrev pub renaming-answer : List ℕ → Result (List ℕ) NotRenaming
 renaming-answer events = cond (keeps-kinds event-kind events) (Ok events) (Err (record {}))
 
--- A table is taken exactly if each of the 12 events becomes one of the 12, of the same kind; it is refused because
--- some event becomes one over 11 or one of another kind.
-abbrev pub Renaming-judged : List ℕ → Result EventTable NotRenaming → Type 0
-Renaming-judged events (Ok t) =
-    (e : ℕ) → e < 12 → (getD events e 0 < 12) × (event-kind (getD events e 0) ≡ event-kind e)
-Renaming-judged events (Err why) =
+-- Each of the 12 events becomes one of the 12, of the same kind.
+abbrev pub Renames : List ℕ → Type 0
+Renames events = (e : ℕ) → e < 12 → (getD events e 0 < 12) × (event-kind (getD events e 0) ≡ event-kind e)
+
+-- Some event becomes one over 11 or one of another kind.
+abbrev pub Breaks : List ℕ → Type 0
+Breaks events =
     (e : ℕ) × (e < 12) × ((11 < getD events e 0) ⊎ (event-kind (getD events e 0) ≡ event-kind e → ⊥))
+
+-- A table is taken if it renames, and refused because it breaks a kind.
+abbrev pub Renaming-judged : List ℕ → Result EventTable NotRenaming → Type 0
+Renaming-judged events (Ok t) = Renames events
+Renaming-judged events (Err why) = Breaks events

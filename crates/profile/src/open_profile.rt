@@ -1,6 +1,8 @@
 // The open profile: it stores only a set of events, and each of them may happen in state 0 on symbol 0.
 ghost use mathlib.Core.Path.{_≡_};
-ghost use Rattle.profile.specs.Opens.{open-slots};
+ghost use lib.ListN.{getD};
+ghost use Rattle.std.specs.declared.option.Option.the-variants.{None};
+ghost use Rattle.profile.specs.Opens.{free-rule, open-slots};
 use crate::Mode;
 use crate::Profile;
 use crate::Rule;
@@ -20,29 +22,42 @@ impl OpenProfile {
     }
 }
 
+// The event may happen in state 0 on symbol 0 and leads back there.
+fn free_rule(event: u8) -> Rule
+    ensures { λ r. ⌜ r ≡ free-rule event ⌝ }
+{
+    Rule {
+        mode: Mode::May,
+        state: 0,
+        top: 0,
+        event,
+        next: 0,
+        upper: 0,
+        lower: 0,
+    }
+}
+
+fn free_slot(events: &[bool], i: usize) -> Option<Rule>
+    ensures { λ r. ⌜ r ≡ getD (open-slots (now (events .entry))) i None ⌝ }
+{
+    if i < 12 && entry_or(events, i, false) {
+        Some(free_rule(i as u8))
+    } else {
+        None
+    }
+}
+
 pub impl Profile for OpenProfile as OpenProfileProfile {
     ghost rules = { λ p. open-slots (p .events) };
 
     ghost origin = { λ p. (0, 0) };
 
     fn slots(&self) -> usize {
-        12
+        self.events.len()
     }
 
     fn slot(&self, i: usize) -> Option<Rule> {
-        if i < 12 && entry_or(&self.events, i, false) {
-            Some(Rule {
-                mode: Mode::May,
-                state: 0,
-                top: 0,
-                event: i as u8,
-                next: 0,
-                upper: 0,
-                lower: 0,
-            })
-        } else {
-            None
-        }
+        free_slot(&self.events, i)
     }
 
     fn start(&self) -> (u8, u8) {

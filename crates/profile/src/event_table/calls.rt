@@ -1,8 +1,9 @@
 // Making a table of events and asking it.
 ghost use mathlib.Core.Path.{_≡_};
+ghost use mathlib.Core.Bool.{true, false};
 ghost use lib.ListN.{getD};
-ghost use Rattle.profile.specs.Kinds.{event-kind, same-kind};
-ghost use Rattle.profile.specs.Renaming.{renaming-told, renaming-answer, Renaming-judged, renaming-refusal};
+ghost use Rattle.profile.specs.Kinds.{event-kind, same-kind, keeps-kinds};
+ghost use Rattle.profile.specs.Renaming.{Renames, Breaks, renaming-told, renaming-answer, Renaming-judged, renaming-refusal};
 use crate::EventTable;
 use crate::entries::entry_or;
 use crate::kind_of;
@@ -33,18 +34,31 @@ fn alike(a: u8, b: u8) -> bool
     }
 }
 
+// Whether each of the 12 events becomes one of its own kind.
+fn renames(events: &[u8; 12]) -> bool
+    ensures value { λ r. ⌜ r ≡ keeps-kinds event-kind (now (events .entry)) ⌝ }
+    ensures kept { λ r. ⌜ (r ≡ true → Renames (now (events .entry))) ⌝ }
+    ensures broken { λ r. ⌜ (r ≡ false → Breaks (now (events .entry))) ⌝ }
+{
+    for e in 0..12u8 {
+        if !alike(events[e as usize], e) {
+            return false;
+        }
+    }
+    true
+}
+
 impl EventTable {
     // The table in which event e becomes `events[e]`. A refused table costs nothing but itself.
     pub fn new(events: [u8; 12]) -> Result<EventTable, NotRenaming>
         ensures answer { λ r. ⌜ renaming-told r ≡ renaming-answer events ⌝ }
         ensures judged { λ r. ⌜ Renaming-judged events r ⌝ }
     {
-        for e in 0..12u8 {
-            if !alike(events[e as usize], e) {
-                return Err(NotRenaming);
-            }
+        if renames(&events) {
+            Ok(EventTable { events })
+        } else {
+            Err(NotRenaming)
         }
-        Ok(EventTable { events })
     }
 
     // What an event becomes; one past the end of the table becomes 0.

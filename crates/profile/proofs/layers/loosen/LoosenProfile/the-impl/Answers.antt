@@ -1,7 +1,7 @@
 use Rattle.profile.specs.Kinds.{event-kind}
 use Rattle.profile.specs.Layers.{loosen-slot}
 use Rattle.profile.proofs.Layerings.{layer-lawful, loosen-keeps}
-use Rattle.profile.proofs.layers.LoosenProfile.the-impl.Needs as need
+use Rattle.profile.proofs.layers.loosen.LoosenProfile.the-impl.Needs as need
 
 pub lawful-law : need.lawful-law
 lawful-law g p =

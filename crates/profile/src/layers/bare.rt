@@ -1,0 +1,52 @@
+// The bare profile keeps what must happen: every slot whose rule is may is empty.
+ghost use mathlib.Core.Path.{_≡_};
+ghost use Rattle.profile.specs.Layers.{bare-slot, bare-slots, Bared};
+use crate::Mode;
+use crate::Profile;
+use crate::Rule;
+use crate::layers::slot_below;
+use crate::layers::slots_below;
+
+#[derive(Drop)]
+pub struct Bare<P> {
+    below: P,
+}
+
+impl<P: Profile> Bare<P> {
+    pub fn new(below: P) -> Bare<P>
+        ensures value { λ r. ⌜ r .below ≡ below ⌝ }
+        ensures meaning { λ _. ⌜ Bared (P·Profile .rules below) (bare-slots (P·Profile .rules below)) ⌝ }
+    {
+        Bare { below }
+    }
+}
+
+fn bared(slot: Option<Rule>) -> Option<Rule>
+    ensures { λ r. ⌜ r ≡ bare-slot slot ⌝ }
+{
+    match slot {
+        Some(rule) => match rule.mode {
+            Mode::May => None,
+            Mode::Must => Some(rule),
+        },
+        None => None,
+    }
+}
+
+pub impl<P: Profile> Profile for Bare<P> as BareProfile {
+    ghost rules = { λ p. bare-slots (P·Profile .rules (p .below)) };
+
+    ghost origin = { λ p. P·Profile .origin (p .below) };
+
+    fn slots(&self) -> usize {
+        slots_below(&self.below)
+    }
+
+    fn slot(&self, i: usize) -> Option<Rule> {
+        bared(slot_below(&self.below, i))
+    }
+
+    fn start(&self) -> (u8, u8) {
+        self.below.start()
+    }
+}

@@ -1,0 +1,61 @@
+// The loosened profile: must becomes may for a set of events.
+ghost use mathlib.Core.Path.{_≡_};
+ghost use Rattle.profile.specs.Layers.{loosen-slot, loosen-slots, Loosened};
+use crate::Mode;
+use crate::Profile;
+use crate::Rule;
+use crate::entries::entry_or;
+use crate::layers::slot_below;
+use crate::layers::slots_below;
+
+#[derive(Drop)]
+pub struct Loosen<P> {
+    events: [bool; 12],
+    below: P,
+}
+
+impl<P: Profile> Loosen<P> {
+    pub fn new(events: [bool; 12], below: P) -> Loosen<P>
+        ensures set { λ r. ⌜ r .events ≡ events ⌝ }
+        ensures value { λ r. ⌜ r .below ≡ below ⌝ }
+        ensures meaning { λ _. ⌜ Loosened events (P·Profile .rules below) (loosen-slots events (P·Profile .rules below)) ⌝ }
+    {
+        Loosen { events, below }
+    }
+}
+
+fn loosened(events: &[bool], slot: Option<Rule>) -> Option<Rule>
+    ensures { λ r. ⌜ r ≡ loosen-slot (now (events .entry)) slot ⌝ }
+{
+    match slot {
+        Some(rule) => {
+            if entry_or(events, rule.event as usize, false) {
+                Some(Rule {
+                    mode: Mode::May,
+                    ..rule
+                })
+            } else {
+                Some(rule)
+            }
+        }
+        None => None,
+    }
+}
+
+pub impl<P: Profile> Profile for Loosen<P> as LoosenProfile {
+    ghost rules = { λ p. loosen-slots (p .events) (P·Profile .rules (p .below)) };
+
+    ghost origin = { λ p. P·Profile .origin (p .below) };
+
+    fn slots(&self) -> usize {
+        slots_below(&self.below)
+    }
+
+    fn slot(&self, i: usize) -> Option<Rule> {
+        loosened(&self.events, slot_below(&self.below, i))
+    }
+
+    fn start(&self) -> (u8, u8) {
+        self.below.start()
+    }
+}

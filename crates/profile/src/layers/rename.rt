@@ -1,0 +1,54 @@
+// The renamed profile: each event is replaced by what a table tells for it.
+ghost use mathlib.Core.Path.{_≡_};
+ghost use Rattle.profile.specs.Layers.{rename-slot, rename-slots, Renamed};
+use crate::EventTable;
+use crate::Profile;
+use crate::Rule;
+use crate::layers::slot_below;
+use crate::layers::slots_below;
+
+#[derive(Drop)]
+pub struct Rename<P> {
+    table: EventTable,
+    below: P,
+}
+
+impl<P: Profile> Rename<P> {
+    pub fn new(table: EventTable, below: P) -> Rename<P>
+        ensures names { λ r. ⌜ r .table ≡ table ⌝ }
+        ensures value { λ r. ⌜ r .below ≡ below ⌝ }
+        ensures meaning { λ _. ⌜ Renamed table (P·Profile .rules below) (rename-slots table (P·Profile .rules below)) ⌝ }
+    {
+        Rename { table, below }
+    }
+}
+
+fn renamed(table: &EventTable, slot: Option<Rule>) -> Option<Rule>
+    ensures { λ r. ⌜ r ≡ rename-slot (now (table .entry)) slot ⌝ }
+{
+    match slot {
+        Some(rule) => Some(Rule {
+            event: table.renamed_event(rule.event),
+            ..rule
+        }),
+        None => None,
+    }
+}
+
+pub impl<P: Profile> Profile for Rename<P> as RenameProfile {
+    ghost rules = { λ p. rename-slots (p .table) (P·Profile .rules (p .below)) };
+
+    ghost origin = { λ p. P·Profile .origin (p .below) };
+
+    fn slots(&self) -> usize {
+        slots_below(&self.below)
+    }
+
+    fn slot(&self, i: usize) -> Option<Rule> {
+        renamed(&self.table, slot_below(&self.below, i))
+    }
+
+    fn start(&self) -> (u8, u8) {
+        self.below.start()
+    }
+}
