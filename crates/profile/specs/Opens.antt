@@ -19,3 +19,6 @@ open-slot events e = cond (getD events e false) (Some (free-rule e)) None
 
 abbrev pub open-slots : List Bool → List (Option Rule)
 open-slots events = map (open-slot events) (counting 0 12)
+
+abbrev pub open-start : ℕ × ℕ
+open-start = (0, 0)

@@ -2,7 +2,7 @@
 ghost use mathlib.Core.Path.{_≡_};
 ghost use lib.ListN.{getD};
 ghost use Rattle.std.specs.declared.option.Option.the-variants.{None};
-ghost use Rattle.profile.specs.Opens.{free-rule, open-slots};
+ghost use Rattle.profile.specs.Opens.{free-rule, open-slots, open-start};
 use crate::Mode;
 use crate::Profile;
 use crate::Rule;
@@ -50,7 +50,7 @@ fn free_slot(events: &[bool], i: usize) -> Option<Rule>
 pub impl Profile for OpenProfile as OpenProfileProfile {
     ghost rules = { λ p. open-slots (p .events) };
 
-    ghost origin = { λ p. (0, 0) };
+    ghost origin = { λ _. open-start };
 
     fn slots(&self) -> usize {
         self.events.len()
