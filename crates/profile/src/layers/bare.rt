@@ -12,12 +12,21 @@ pub struct Bare<P> {
     below: P,
 }
 
-impl<P: Profile> Bare<P> {
+impl<P> Bare<P> {
     pub fn new(below: P) -> Bare<P>
         ensures value { λ r. ⌜ r .below ≡ below ⌝ }
-        ensures meaning { λ _. ⌜ Bared (P·Profile .rules below) (bare-slots (P·Profile .rules below)) ⌝ }
     {
         Bare { below }
+    }
+}
+
+impl<P: Profile> Bare<P> {
+    // The profile below. The layer makes of its may rules and must rules what is told here.
+    pub fn below(&self) -> &P
+        ensures value { λ r. ⌜ now r ≡ now (self .entry) .below ⌝ }
+        ensures meaning { λ _. ⌜ Bared (P·Profile .rules (now (self .entry) .below)) (bare-slots (P·Profile .rules (now (self .entry) .below))) ⌝ }
+    {
+        &self.below
     }
 }
 

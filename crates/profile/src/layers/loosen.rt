@@ -14,13 +14,22 @@ pub struct Loosen<P> {
     below: P,
 }
 
-impl<P: Profile> Loosen<P> {
+impl<P> Loosen<P> {
     pub fn new(events: [bool; 12], below: P) -> Loosen<P>
         ensures set { λ r. ⌜ r .events ≡ events ⌝ }
         ensures value { λ r. ⌜ r .below ≡ below ⌝ }
-        ensures meaning { λ _. ⌜ Loosened events (P·Profile .rules below) (loosen-slots events (P·Profile .rules below)) ⌝ }
     {
         Loosen { events, below }
+    }
+}
+
+impl<P: Profile> Loosen<P> {
+    // The profile below. The layer makes of its may rules and must rules what is told here.
+    pub fn below(&self) -> &P
+        ensures value { λ r. ⌜ now r ≡ now (self .entry) .below ⌝ }
+        ensures meaning { λ _. ⌜ Loosened (now (self .entry) .events) (P·Profile .rules (now (self .entry) .below)) (loosen-slots (now (self .entry) .events) (P·Profile .rules (now (self .entry) .below))) ⌝ }
+    {
+        &self.below
     }
 }
 

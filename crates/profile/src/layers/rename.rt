@@ -13,13 +13,22 @@ pub struct Rename<P> {
     below: P,
 }
 
-impl<P: Profile> Rename<P> {
+impl<P> Rename<P> {
     pub fn new(table: EventTable, below: P) -> Rename<P>
         ensures names { λ r. ⌜ r .table ≡ table ⌝ }
         ensures value { λ r. ⌜ r .below ≡ below ⌝ }
-        ensures meaning { λ _. ⌜ Renamed table (P·Profile .rules below) (rename-slots table (P·Profile .rules below)) ⌝ }
     {
         Rename { table, below }
+    }
+}
+
+impl<P: Profile> Rename<P> {
+    // The profile below. The layer makes of its may rules and must rules what is told here.
+    pub fn below(&self) -> &P
+        ensures value { λ r. ⌜ now r ≡ now (self .entry) .below ⌝ }
+        ensures meaning { λ _. ⌜ Renamed (now (self .entry) .table) (P·Profile .rules (now (self .entry) .below)) (rename-slots (now (self .entry) .table) (P·Profile .rules (now (self .entry) .below))) ⌝ }
+    {
+        &self.below
     }
 }
 
