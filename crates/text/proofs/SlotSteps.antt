@@ -2,37 +2,24 @@
 use mathlib.Core.Path.{_≡_, refl, sym, ap, _∙_}
 use mathlib.Core.Bool.{cond, true, false}
 use mathlib.Core.List.{List, [], _∷_, _++_}
-use Prim.Native.Nat.{ℕ, zero, suc, _+_, _<_, _≤_}
+use Prim.Native.Nat.{ℕ, _+_, _<_, _≤_}
 use native.Mathlib.Omega.{arith}
-use native.Mathlib.Numerals.{add-one}
 use lib.Dec.{leb}
-use lib.ListN.{length, drop}
-use Rattle.std.proofs.shelf.Lists.{drop-all}
+use lib.ListN.{length, getD, drop}
+use Rattle.std.proofs.shelf.Lists.{at-drop-more, drop-all}
 use Rattle.std.proofs.shelf.Tests.{cond-true, cond-false, le-leb, lt-leb}
-use Rattle.std.specs.declared.option.Option.the-variants.{Some, None}
 use Rattle.std.specs.declared.result.Result.{Result}
 use Rattle.std.specs.declared.result.Result.the-variants.{Ok, Err}
 use Rattle.profile.specs.declared.Rule.{Rule}
 use Rattle.profile.specs.declared.table.Table.{Table}
-use Rattle.profile.specs.Tables.{slot-at}
 use Rattle.text.specs.declared.fault.Fault.{Fault}
 use Rattle.text.specs.ProfileText.{Read-into, read-profile}
 use Rattle.text.specs.Writing.{overlay, Wrote, write-answer, write-after}
 use Rattle.text.specs.Report.{slot-line, slot-lines, report-of, lint-bytes, outcome}
 use Rattle.text.proofs.Overlays.{overlay-whole}
 
-at-slot : (rs : List Rule) (i : ℕ) (r : Rule) → Some r ≡ slot-at rs i → drop i rs ≡ r ∷ drop (suc i) rs
-at-slot [] i r e = let z : _≡_ {A = ℕ} 0 1 = cc in absurd (omega arith)
-at-slot (s ∷ rs) zero r e = let f : r ≡ s = cc in ap (λ (x : Rule). x ∷ rs) (sym f)
-at-slot (s ∷ rs) (suc i) r e = at-slot rs i r e
-
-pub slot-next : (rs : List Rule) (i : ℕ) (r : Rule) → Some r ≡ slot-at rs i → slot-lines i (drop i rs) ≡ slot-line i r ++ slot-lines (i + 1) (drop (i + 1) rs)
-slot-next rs i r e = rw add-one (ap (slot-lines i) (at-slot rs i r e) ∙ rw add-one refl)
-
-pub slot-there : (rs : List Rule) (i : ℕ) → None ≡ slot-at rs i → i < length rs → ⊥
-slot-there [] i e h = omega arith
-slot-there (r ∷ rs) zero e h = let z : _≡_ {A = ℕ} 0 1 = cc in omega arith
-slot-there (r ∷ rs) (suc i) e h = slot-there rs i e (omega arith)
+pub slot-next : (rs : List Rule) (i : ℕ) (d : Rule) → i < length rs → slot-lines i (drop i rs) ≡ slot-line i (getD rs i d) ++ slot-lines (i + 1) (drop (i + 1) rs)
+slot-next rs i d h = at-drop-more (slot-lines i) rs i d h
 
 pub slots-done : (rs : List Rule) (i : ℕ) → length rs ≤ i → slot-lines i (drop i rs) ≡ []
 slots-done rs i h = ap (slot-lines i) (drop-all i rs h)

@@ -3,7 +3,6 @@ ghost use mathlib.Core.Path.{_≡_};
 ghost use mathlib.Core.List.{[], _++_};
 ghost use Prim.Native.Nat.{_+_, _*_, _^_, _≤_};
 ghost use lib.ListN.{length, getD};
-ghost use Rattle.profile.specs.Tables.{table-rules, table-start};
 ghost use Rattle.text.specs.ProfileText.{mode-word, reading-of};
 ghost use Rattle.text.specs.Writing.{Wrote, write-answer, write-after};
 ghost use Rattle.text.specs.Report.{line-end, shown-word, shown-number, shown-symbol-if, event-name, slot-line, slot-lines, start-line, shown-place, refusal-line, accepted-lines, report-of, lint-bytes, outcome};
@@ -17,8 +16,10 @@ use crate::write::put;
 use crate::write::put_byte;
 use crate::write::put_number;
 use profile::Mode;
+use profile::Profile;
 use profile::Rule;
 use profile::Table;
+use profile::TableProfile;
 
 // The word for a mode.
 pub fn mode_word(mode: Mode) -> &'static [u8]
@@ -97,17 +98,14 @@ fn put_slot(out: &mut [u8], at: usize, slot: usize, rule: &Rule) -> usize
 }
 
 // The lines of all slots.
-fn put_slots(out: &mut [u8], at: usize, table: &Table) -> usize
-    requires { ⌜ at ≤ 100 ⌝ }
-    ensures wrote { λ r. ⌜ Wrote (now (out .entry)) at (slot-lines 0 (table-rules (now (table .entry)))) r (now (out .exit)) ⌝ }
+fn put_slots(out: &mut [u8], at: usize, rules: &[Rule]) -> usize
+    requires { ⌜ at ≤ 100 ⌝ ∗ ⌜ length (now rules) ≤ 96 ⌝ }
+    ensures wrote { λ r. ⌜ Wrote (now (out .entry)) at (slot-lines 0 (now (rules .entry))) r (now (out .exit)) ⌝ }
     ensures bound { λ r. ⌜ r ≤ 100 + 200 * 96 ⌝ }
 {
-    let slots = table.slots();
     let mut end = at;
-    for i in 0..slots {
-        if let Some(rule) = table.slot(i) {
-            end = put_slot(out, end, i, &rule);
-        }
+    for i in 0..rules.len() {
+        end = put_slot(out, end, i, &rules[i]);
     }
     end
 }
@@ -118,7 +116,7 @@ fn put_accepted(out: &mut [u8], table: &Table) -> usize
 {
     let at = put(out, 0, b"accepted");
     let at = put_byte(out, at, 10);
-    let at = put_slots(out, at, table);
+    let at = put_slots(out, at, table.rules());
     let (state, symbol) = table.start();
     let at = put(out, at, b"start");
     let at = put_value(out, at, state as usize);

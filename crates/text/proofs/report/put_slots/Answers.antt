@@ -1,27 +1,19 @@
-use Prim.Native.Nat.{_≤_, _<_}
 use native.Mathlib.Omega.{arith}
-use lib.ListN.{length}
-use Rattle.profile.specs.Tables.{table-rules}
 use Rattle.text.proofs.Overlays.{so-far-none, so-far-step, so-far-done}
-use Rattle.text.proofs.SlotSteps.{slot-next, slot-there, slots-done}
+use Rattle.text.proofs.SlotSteps.{slot-next, slots-done}
 use Rattle.text.proofs.report.put_slots.Needs as need
-use Rattle.text.proofs.report.put_slots.Needs.{in-Some, in-rest}
 
 pub loop-i-holds : need.loop-i-holds
-loop-i-holds c = (so-far-none _ _ _, c .pre)
+loop-i-holds c = (so-far-none _ _ _, c .pre .0)
 
 pub loop-i-again : need.loop-i-again
-loop-i-again c =
-    elim (c .match-slot .came) [
-      | in-Some w ↦ rw (w .out-is, w .end-is) (
-        so-far-step (slot-next (table-rules (c .args .table .now)) (c .loop-i .i) (w .in-Some .rule) (w .in-Some .ensures tt)) (c .loop-i .inv .0) (w .put-slot-end .ensures .wrote),
-        omega (arith, c .loop-i .inv .1, w .put-slot-end .ensures .bound),
-      )
-      | in-rest w ↦ absurd (slot-there (table-rules (c .args .table .now)) (c .loop-i .i) (w .in-rest .ensures tt) (omega (arith, c .slots-slots .ensures .value)))
-    ]
+loop-i-again c = (
+  so-far-step (slot-next (c .args .rules .now) (c .loop-i .i) _ (c .loop-i-test .taken)) (c .loop-i .inv .0) (c .put-slot-end .ensures .wrote),
+  omega (arith, c .loop-i .inv .1, c .put-slot-end .ensures .bound),
+)
 
 pub returns : need.returns
 returns c = record {
-  wrote = so-far-done (slots-done (table-rules (c .args .table .now)) (c .loop-i .i) (omega (arith, c .slots-slots .ensures .value))) (c .loop-i .inv .0);
-  bound = omega (arith, c .loop-i .inv .1, c .slots-slots .ensures .law .few);
+  wrote = so-far-done (slots-done (c .args .rules .now) (c .loop-i .i) (c .loop-i-test .left)) (c .loop-i .inv .0);
+  bound = omega (arith, c .loop-i .inv .1);
 }
