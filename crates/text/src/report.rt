@@ -97,6 +97,19 @@ fn put_slot(out: &mut [u8], at: usize, slot: usize, rule: &Rule) -> usize
     put_byte(out, at, 10)
 }
 
+// Writes the line of a slot that holds a rule. Tells how many bytes that is.
+pub fn slot_told(slot: usize, rule: &Rule, out: &mut [u8]) -> Result<usize, TooFewBytes>
+    ensures answer { λ r. ⌜ r ≡ write-answer (slot-line slot (now (rule .entry))) (now (out .entry)) ⌝ }
+    ensures after { λ r. ⌜ now (out .exit) ≡ write-after (slot-line slot (now (rule .entry))) (now (out .entry)) ⌝ }
+{
+    let mut nothing: [u8; 0] = [];
+    let needed = put_slot(&mut nothing, 0, slot, rule);
+    if needed > out.len() {
+        return Err(TooFewBytes);
+    }
+    Ok(put_slot(out, 0, slot, rule))
+}
+
 // The lines of all slots.
 fn put_slots(out: &mut [u8], at: usize, rules: &[Rule]) -> usize
     requires { ⌜ at ≤ 100 ⌝ ∗ ⌜ length (now rules) ≤ 96 ⌝ }
