@@ -12,3 +12,12 @@ pub(crate) fn told(text: &[u8], expected: &[u8]) -> Result<(), Fail> {
         None => Err(Fail::new("a report past the lent bytes")),
     }
 }
+
+// The same of each text of a table, beside its report. A failure notes which line of the table it is, from 0 on.
+pub(crate) fn all_told(table: &[(&[u8], &[u8])]) -> Result<(), Fail> {
+    for i in 0..table.len() {
+        let (text, report) = table[i];
+        told(text, report).note(format_args!("line {i}"))?;
+    }
+    Ok(())
+}
