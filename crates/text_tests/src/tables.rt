@@ -1,9 +1,11 @@
 // Texts read into a table profile, which is then asked; a refused text leaves it as it was.
 use profile::Mode;
+use profile::Profile;
 use profile::Rule;
 use profile::RuleDebug;
 use profile::RulePartialEq;
 use profile::Table;
+use profile::TableProfile;
 use std::test::*;
 use text::fault::Cause;
 use text::fault::Fault;
