@@ -5,10 +5,11 @@ use mathlib.Core.Path.{_≡_, refl, sym, ap, subst, _∙_}
 use mathlib.Core.Bool.{Bool, true, false, cond}
 use mathlib.Core.List.{List, [], _∷_, _++_}
 use mathlib.Core.Logic.{_⊎_, inl, inr}
+use lib.Dec.{ltb}
 use lib.ListN.{length, getD, take, drop}
 use Rattle.std.proofs.shelf.Lists.{take-at, take-all, drop-at, length-take-le}
 use Rattle.std.proofs.shelf.Edits.{length-inserted, getD-inserted-at}
-use Rattle.std.proofs.shelf.Tests.{both-ways, and-parts, and-from, not-true, not-from-false, cases-lt, cond-true, cond-false, lt-ltb, le-ltb}
+use Rattle.std.proofs.shelf.Tests.{both-ways, and-parts, and-from, not-true, not-from-false, cases-lt, cond-true, cond-false, lt-ltb, le-ltb, ltb-true}
 use Rattle.std.specs.Holes.{inserted}
 use Rattle.std.specs.declared.result.Result.the-variants.{Ok, Err}
 use Rattle.ordered.specs.declared.Unplaced.the-variants.{Double, Full}
@@ -176,6 +177,14 @@ held-read was count h e =
       | inr a ↦ (let k : length was ≤ h - 0 = omega arith in take-all (h - 0) was k ∙ sym (take-all count was a))
     ]
 
+-- where an element is admitted, its place was sought and found, and there is room
+pub admitted : {X : Type 0} (le : X → X → Bool) (x : X) (was : List X) (count at : ℕ) → Ok at ≡ insert-answer le x count was → (Ok at ≡ sought le x (take count was)) × (count < length was)
+admitted le x was count at e = ways (present le x (take count was)) (ltb count (length was)) refl refl e where
+  ways : (b r : Bool) → present le x (take count was) ≡ b → ltb count (length was) ≡ r → Ok at ≡ cond b (Err (Double (place-of le x (take count was)))) (cond r (Ok (place-of le x (take count was))) (Err Full)) → (Ok at ≡ sought le x (take count was)) × (count < length was)
+  ways true r p q told = let z : _≡_ {A = ℕ} 0 1 = cc in absurd (omega arith)
+  ways false true p q told = (let same : at ≡ place-of le x (take count was) = cc in ap Ok same ∙ sym (cond-false _ _ _ p), ltb-true count (length was) q)
+  ways false false p q told = let z : _≡_ {A = ℕ} 0 1 = cc in absurd (omega arith)
+
 -- the three ways out of an insertion: what was sought is among `read`, which are the elements held
 module _ {X K : Type 0} (key : X → K) (le : K → K → Bool) (reflexive : (a : K) → le a a ≡ true) (antisymmetric : (a b : K) → le a b ≡ true → le b a ≡ true → a ≡ b) (transitive : (a b d : K) → le a b ≡ true → le b d ≡ true → le a d ≡ true) (total : (a b : K) → le a b ≡ false → le b a ≡ true) (x : X) (was read : List X) (count at : ℕ) (same : read ≡ take count was) where
   pub told-double : Err at ≡ sought (by-key key le) x read → (Err (Double at) ≡ insert-answer (by-key key le) x count was) × Doubled key x (take count was) at
@@ -199,10 +208,13 @@ module _ {X K : Type 0} (key : X → K) (le : K → K → Bool) (reflexive : (a 
       let n = length-take-le count was (omega arith) in
       omega arith
 
+  pub told-room : Ok at ≡ sought (by-key key le) x read → count < length was → Ok at ≡ insert-answer (by-key key le) x count was
+  told-room e room = let p = fresh e in ap Ok (p .0) ∙ sym (cond-false _ _ _ (p .1) ∙ cond-true _ _ _ (lt-ltb _ _ room))
+
   pub told-placed : (is : List X) → Ok at ≡ sought (by-key key le) x read → count < length was → is ≡ inserted (take count was) at x ++ drop (count + 1) was → (Ok at ≡ insert-answer (by-key key le) x count was) × (is ≡ insert-into (by-key key le) x (take count was) ++ drop (count + 1) was)
   told-placed is e room put =
       let p = fresh e in (
-        ap Ok (p .0) ∙ sym (cond-false _ _ _ (p .1) ∙ cond-true _ _ _ (lt-ltb _ _ room)),
+        told-room e room,
         put ∙ ap (λ (l : List X). l ++ drop (count + 1) was) (ap (λ (n : ℕ). inserted (take count was) n x) (p .0) ∙ sym (goes (by-key key le) x (take count was) (p .1))),
       )
 

@@ -7,6 +7,7 @@ ghost use Prim.Native.Nat.{_+_, _<_, _≤_};
 ghost use lib.ListN.{length, take, drop};
 ghost use Rattle.ordered.specs.Lex.{lex-le};
 ghost use Rattle.std.specs.Holes.{inserted};
+ghost use Rattle.std.specs.declared.result.Result.the-variants.{Ok, Err};
 ghost use Rattle.ordered.specs.Insert.{place-of, sought, insert-answer, insert-after};
 ghost use Rattle.ordered.specs.Laws.{by-key, Lawful-insertion};
 
@@ -97,6 +98,23 @@ fn seek<T: Keyed>(items: &[T], x: &T) -> Result<usize, usize>
     }
 }
 
+// Where `x` goes among the first `count` of the places, or why it cannot. A double is told before want of room.
+fn admit<T: Keyed>(items: &[T], count: usize, x: &T) -> Result<usize, Unplaced>
+    ensures answer { λ r. ⌜ r ≡ insert-answer (by-key (T·Keyed .key) (T·Keyed .le)) (now (x .entry)) count (now (items .entry)) ⌝ }
+    ensures refusal { λ r. ⌜ elim r [ Ok at ↦ Unit {0} | Err why ↦ Lawful-insertion (T·Keyed .key) (T·Keyed .le) (now (x .entry)) count (now (items .entry)) (now (items .entry)) (Err why) ] ⌝ }
+{
+    let held = count.min(items.len());
+    match seek(&items[0..held], x) {
+        Err(at) => Err(Unplaced::Double(at)),
+        Ok(at) => {
+            if count >= items.len() {
+                return Err(Unplaced::Full);
+            }
+            Ok(at)
+        }
+    }
+}
+
 // Inserts `x` among the first `count` of the places and tells where it stands. Those are read as they are;
 // the laws say what ascending ones gain. A double changes nothing and is told before want of room.
 pub fn insert<T: Keyed + Copy>(items: &mut [T], count: usize, x: T) -> Result<usize, Unplaced>
@@ -104,13 +122,9 @@ pub fn insert<T: Keyed + Copy>(items: &mut [T], count: usize, x: T) -> Result<us
     ensures after { λ r. ⌜ now (items .exit) ≡ insert-after (by-key (T·Keyed .key) (T·Keyed .le)) x count (now (items .entry)) r ⌝ }
     ensures lawful { λ r. ⌜ Lawful-insertion (T·Keyed .key) (T·Keyed .le) x count (now (items .entry)) (now (items .exit)) r ⌝ }
 {
-    let held = count.min(items.len());
-    match seek(&items[0..held], &x) {
-        Err(at) => Err(Unplaced::Double(at)),
+    match admit(items, count, &x) {
+        Err(why) => Err(why),
         Ok(at) => {
-            if count >= items.len() {
-                return Err(Unplaced::Full);
-            }
             shift_in(items, at, count, x);
             Ok(at)
         }
