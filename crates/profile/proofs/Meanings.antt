@@ -1,11 +1,13 @@
--- What the layers make of may rules and must rules, slot by slot.
-use Prim.Native.Nat.{ℕ}
+-- What the layers and the open profile make of may rules and must rules, slot by slot.
+use Prim.Native.Nat.{ℕ, zero, suc, _+_, _<_, _≤_}
 use native.Mathlib.Omega.{arith}
 use mathlib.Core.Path.{_≡_, refl, sym, ap, subst, _∙_}
 use mathlib.Core.Bool.{Bool, true, false, cond}
 use mathlib.Core.List.{List, [], _∷_, map}
 use mathlib.Core.Logic.{_⊎_, inl, inr}
 use lib.ListN.{getD}
+use Rattle.std.proofs.shelf.Tests.{cases-eq}
+use Rattle.std.specs.Iters.{counting}
 use Rattle.std.specs.declared.option.Option.{Option}
 use Rattle.std.specs.declared.option.Option.the-variants.{Some, None}
 use Rattle.profile.specs.declared.event_table.EventTable.{EventTable}
@@ -14,6 +16,7 @@ use Rattle.profile.specs.declared.Mode.the-variants.{May, Must}
 use Rattle.profile.specs.declared.Rule.{Rule}
 use Rattle.profile.specs.Rules.{rule-key}
 use Rattle.profile.specs.Profiles.{Allows, Demands, Some-slot, May-rule, Must-rule, Just-when}
+use Rattle.profile.specs.Opens.{free-rule, open-slot, open-slots, Opened}
 use Rattle.profile.specs.Layers.{bare-rule, bare-slot, bare-slots, Bared, loosen-rule, loosen-slot, loosen-slots, Loosened, rename-rule, rename-slot, rename-slots, Renamed}
 
 -- from what holds of a slot above to what holds of the slot below it, and back
@@ -149,3 +152,51 @@ module _ (table : EventTable) where
     may = λ r. (may-below r slots, λ h. some-above (rename-slot table) (Allows r) (Allows (h .0)) (allows-renamed r (h .0) (h .2)) slots (h .1));
     must = λ r. (must-below r slots, λ h. some-above (rename-slot table) (Demands r) (Demands (h .0)) (demands-renamed r (h .0) (h .2)) slots (h .1));
   }
+
+-- the open profile, over the events from a on
+module _ (events : List Bool) (r : Rule) where
+  -- an event of the set that r is the rule of
+  abbrev Told : ℕ → Type 0
+  Told e = (getD events e false ≡ true) × (rule-key (free-rule e) ≡ rule-key r)
+
+  slot-told : (e : ℕ) → Allows r (open-slot events e) → Told e
+  slot-told e a = at (getD events e false) refl a where
+    at : (b : Bool) → getD events e false ≡ b → Allows r (cond b (Some (free-rule e)) None) → Told e
+    at true is h = (is, h)
+    at false is h = absurd h
+
+  told-slot : (e : ℕ) → Told e → Allows r (open-slot events e)
+  told-slot e t = subst (λ (b : Bool). Allows r (cond b (Some (free-rule e)) None)) (sym (t .0)) (t .1)
+
+  not-demanded : (e : ℕ) → Demands r (open-slot events e) → ⊥
+  not-demanded e d = at (getD events e false) d where
+    at : (b : Bool) → Demands r (cond b (Some (free-rule e)) None) → ⊥
+    at true h = modes-differ (h .0)
+    at false h = h
+
+  may-told : (a n : ℕ) → May-rule (map (open-slot events) (counting a n)) r → (e : ℕ) × (e < a + n) × Told e
+  may-told a zero h = absurd h
+  may-told a (suc n) (inl h) = (a, omega arith, slot-told a h)
+  may-told a (suc n) (inr h) = let p = may-told (a + 1) n h in let m = p .1 in (p .0, omega arith, p .2)
+
+  told-may : (a n e : ℕ) → a ≤ e → e < a + n → Told e → May-rule (map (open-slot events) (counting a n)) r
+  told-may a zero e l m t = absurd (omega arith)
+  told-may a (suc n) e l m t =
+      elim (cases-eq a e) [
+        | inl is ↦ inl (told-slot a (subst (λ (v : ℕ). Told v) (sym is) t))
+        | inr apart ↦ inr (told-may (a + 1) n e (omega (arith, apart)) (omega arith) t)
+      ]
+
+  none-must : (a n : ℕ) → Must-rule (map (open-slot events) (counting a n)) r → ⊥
+  none-must a zero h = h
+  none-must a (suc n) (inl h) = not-demanded a h
+  none-must a (suc n) (inr h) = none-must (a + 1) n h
+
+pub open-means : (events : List Bool) → Opened events (open-slots events)
+open-means events = record {
+  may = λ r. (
+    λ h. let p = may-told events r 0 12 h in let m = p .1 in (p .0, omega arith, p .2 .0, p .2 .1),
+    λ p. told-may events r 0 12 (p .0) (omega arith) (let m = p .1 in omega arith) (p .2, p .3),
+  );
+  must = λ r. none-must events r 0 12;
+}

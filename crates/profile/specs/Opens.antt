@@ -1,7 +1,8 @@
 -- The open profile of a set of events: 12 slots, and slot e holds, if e is in the set, a may rule for e with all
 -- else 0.
-use Prim.Native.Nat.{ℕ}
-use mathlib.Core.Bool.{Bool, false, cond}
+use Prim.Native.Nat.{ℕ, _<_}
+use mathlib.Core.Path.{_≡_}
+use mathlib.Core.Bool.{Bool, true, false, cond}
 use mathlib.Core.List.{List, map}
 use lib.ListN.{getD}
 use Rattle.std.specs.Iters.{counting}
@@ -9,6 +10,8 @@ use Rattle.std.specs.declared.option.Option.{Option}
 use Rattle.std.specs.declared.option.Option.the-variants.{Some, None}
 use Rattle.profile.specs.declared.Mode.the-variants.{May}
 use Rattle.profile.specs.declared.Rule.{Rule}
+use Rattle.profile.specs.Rules.{rule-key}
+use Rattle.profile.specs.Profiles.{May-rule, Must-rule, Just-when}
 
 -- an event may happen in state 0 on symbol 0 and leads back there
 abbrev pub free-rule : ℕ → Rule
@@ -22,3 +25,8 @@ open-slots events = map (open-slot events) (counting 0 12)
 
 abbrev pub open-start : ℕ × ℕ
 open-start = (0, 0)
+
+-- What it comes to: the may rules are those of the events in the set, and there are no must rules.
+pub record Opened (events : List Bool) (slots : List (Option Rule)) : Type 0 where
+  pub may : (r : Rule) → Just-when (May-rule slots r) ((e : ℕ) × (e < 12) × (getD events e false ≡ true) × (rule-key (free-rule e) ≡ rule-key r))
+  pub must : (r : Rule) → Must-rule slots r → ⊥

@@ -2,7 +2,7 @@
 ghost use mathlib.Core.Path.{_≡_};
 ghost use lib.ListN.{getD};
 ghost use Rattle.std.specs.declared.option.Option.the-variants.{None};
-ghost use Rattle.profile.specs.Opens.{free-rule, open-slots, open-start};
+ghost use Rattle.profile.specs.Opens.{free-rule, open-slots, open-start, Opened};
 use crate::Mode;
 use crate::Profile;
 use crate::Rule;
@@ -19,6 +19,14 @@ impl OpenProfile {
         ensures { λ r. ⌜ r .events ≡ events ⌝ }
     {
         OpenProfile { events }
+    }
+
+    // The marks of the events. What may happen is told by them, and nothing must.
+    pub fn events(&self) -> &[bool; 12]
+        ensures value { λ r. ⌜ now r ≡ now (self .entry) .events ⌝ }
+        ensures meaning { λ _. ⌜ Opened (now (self .entry) .events) (open-slots (now (self .entry) .events)) ⌝ }
+    {
+        &self.events
     }
 }
 
