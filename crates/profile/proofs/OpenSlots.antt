@@ -1,20 +1,21 @@
 -- The slots of the open profile, and its law.
-use Prim.Native.Nat.{ℕ, _<_, _≤_}
+use Prim.Native.Nat.{ℕ, zero, suc, _+_, _<_, _≤_}
 use native.Mathlib.Omega.{arith}
 use mathlib.Core.Path.{_≡_, refl, sym, ap, _∙_}
 use mathlib.Core.Bool.{Bool, true, false, cond}
 use mathlib.Core.List.{List, [], _∷_, map}
 use lib.ListN.{length, getD}
 use Rattle.std.proofs.shelf.Lists.{getD-past}
-use Rattle.std.proofs.shelf.Counted.{getD-map-counting, length-map-counting}
+use Rattle.std.proofs.shelf.Counted.{getD-map-counting}
 use Rattle.std.specs.Iters.{counting}
 use Rattle.std.specs.declared.option.Option.{Option}
 use Rattle.std.specs.declared.option.Option.the-variants.{Some, None}
 use Rattle.profile.specs.declared.Kind.{Kind}
 use Rattle.profile.specs.declared.Kind.the-variants.{Open, Step, Close}
-use Rattle.profile.specs.Rules.{Form, Formed, Lawful-rule}
+use Rattle.profile.specs.Rules.{Formed, Lawful-rule}
 use Rattle.profile.specs.Kinds.{event-kind}
 use Rattle.profile.specs.Profiles.{Lawful-slot, Lawful-slots}
+use Rattle.profile.proofs.Renames.{event-there}
 use Rattle.profile.specs.Opens.{free-rule, open-slot, open-slots}
 
 open-at : (events : List Bool) (i : ℕ) → i < 12 → getD (open-slots events) i None ≡ open-slot events i
@@ -30,40 +31,21 @@ pub open-outside : (events : List Bool) (i : ℕ) → 12 ≤ i → None ≡ getD
 open-outside events i h = sym (getD-past (open-slots events) i None h)
 
 -- a rule whose symbols are all 0 has the form of any kind
-zero-form : (k : Kind) → Form k 0 0
-zero-form Open = tt
-zero-form Step = refl
-zero-form Close = (refl, refl)
+zero-formed : (k : Option Kind) → (k ≡ None → ⊥) → Formed k 0 0
+zero-formed None there = there refl
+zero-formed (Some Open) there = tt
+zero-formed (Some Step) there = refl
+zero-formed (Some Close) there = (refl, refl)
 
-free-lawful : (events : List Bool) (e : ℕ) (k : Kind) → event-kind e ≡ Some k → Lawful-slot event-kind (open-slot events e)
-free-lawful events e k is = at (getD events e false) where
+free-lawful : (events : List Bool) (e : ℕ) → e < 12 → Lawful-slot event-kind (open-slot events e)
+free-lawful events e h = at (getD events e false) where
   at : (b : Bool) → Lawful-slot event-kind (cond b (Some (free-rule e)) None)
-  at true = record { state = omega arith; next = omega arith; top = omega arith; upper = omega arith; lower = omega arith; form = rw is (zero-form k) }
+  at true = record { state = omega arith; next = omega arith; top = omega arith; upper = omega arith; lower = omega arith; form = zero-formed (event-kind e) (event-there e h) }
   at false = tt
 
+lawful-from : (events : List Bool) (a n : ℕ) → a + n ≤ 12 → Lawful-slots event-kind (map (open-slot events) (counting a n))
+lawful-from events a zero h = tt
+lawful-from events a (suc n) h = (free-lawful events a (omega arith), lawful-from events (a + 1) n (omega arith))
+
 pub open-lawful : (events : List Bool) → Lawful-slots event-kind (open-slots events)
-open-lawful events = (
-  free-lawful events 0 Open refl,
-  (
-    free-lawful events 1 Open refl,
-    (
-      free-lawful events 2 Open refl,
-      (
-        free-lawful events 3 Open refl,
-        (
-          free-lawful events 4 Step refl,
-          (
-            free-lawful events 5 Step refl,
-            (
-              free-lawful events 6 Step refl,
-              (
-                free-lawful events 7 Step refl,
-                (free-lawful events 8 Close refl, (free-lawful events 9 Close refl, (free-lawful events 10 Close refl, (free-lawful events 11 Close refl, tt)))),
-              ),
-            ),
-          ),
-        ),
-      ),
-    ),
-  ),
-)
+open-lawful events = lawful-from events 0 12 (omega arith)

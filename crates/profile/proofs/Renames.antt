@@ -52,7 +52,7 @@ kept-event t e s = (
 )
 
 -- and there is one below 12
-event-there : (e : ℕ) → e < 12 → event-kind e ≡ None → ⊥
+pub event-there : (e : ℕ) → e < 12 → event-kind e ≡ None → ⊥
 event-there e h = at (ltb e 4) (ltb e 8) (ltb e 12) (lt-ltb e 12 h) where
   some : (k : Kind) → Some k ≡ None → ⊥
   some k n = let z : _≡_ {A = ℕ} 0 1 = cc in omega arith

@@ -55,7 +55,7 @@ fn free_slot(events: &[bool], i: usize) -> Option<Rule>
     }
 }
 
-pub impl Profile for OpenProfile as OpenProfileProfile {
+pub impl Profile for OpenProfile as EventsProfile {
     ghost rules = { λ p. open-slots (p .events) };
 
     ghost origin = { λ _. open-start };
