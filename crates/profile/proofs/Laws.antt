@@ -1,11 +1,11 @@
 -- The law of a rule and its test say the same; a table's law follows from what its type keeps.
 use Prim.Native.Nat.{ℕ, zero, suc, _+_, _<_, _≤_}
 use native.Mathlib.Omega.{arith}
-use mathlib.Core.Path.{_≡_, refl, sym, ap, subst, _∙_}
-use mathlib.Core.Bool.{Bool, true, false, _&&_}
+use mathlib.Core.Path.{_≡_, refl, sym, subst, _∙_}
+use mathlib.Core.Bool.{Bool, true, false}
 use mathlib.Core.List.{List, [], _∷_, map}
-use mathlib.Core.Logic.{_⊎_, inl, inr}
-use lib.Dec.{ltb, eqb}
+use mathlib.Core.Logic.{inl, inr}
+use lib.Dec.{ltb}
 use lib.ListN.{length, getD, take, length-map}
 use Rattle.std.specs.Orderings.{Decides}
 use Rattle.std.proofs.shelf.Tests.{ltb-true, lt-ltb, eqb-true, eq-eqb, and-parts, and-from, both-ways}
@@ -19,7 +19,7 @@ use Rattle.profile.specs.declared.Kind.{Kind}
 use Rattle.profile.specs.declared.Kind.the-variants.{Open, Step, Close}
 use Rattle.profile.specs.declared.Rule.{Rule}
 use Rattle.profile.specs.Kinds.{event-kind}
-use Rattle.profile.specs.Rules.{Form, Formed, formed, Lawful-rule, lawful-rule, all-lawful, rule-key, rule-le, rules-ascend}
+use Rattle.profile.specs.Rules.{Formed, formed, Lawful-rule, lawful-rule, all-lawful, rule-key, rule-le, rules-ascend}
 use Rattle.profile.specs.Profiles.{Lawful-slots, Lawful-profile}
 use Rattle.profile.specs.Tables.{Lawful-table}
 

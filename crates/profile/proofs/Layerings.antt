@@ -1,9 +1,9 @@
 -- What holds of any layer that works slot by slot, and of each of the three.
 use Prim.Native.Nat.{ℕ}
-use mathlib.Core.Path.{_≡_, refl, sym, ap, _∙_}
-use mathlib.Core.Bool.{Bool, true, false}
+use mathlib.Core.Path.{_≡_, sym, ap, _∙_}
+use mathlib.Core.Bool.{Bool}
 use mathlib.Core.List.{List, [], _∷_, map}
-use lib.ListN.{length, getD, length-map, List·getD-map}
+use lib.ListN.{getD, length-map, List·getD-map}
 use Rattle.std.specs.declared.option.Option.{Option}
 use Rattle.std.specs.declared.option.Option.the-variants.{Some, None}
 use Rattle.profile.specs.declared.Kind.{Kind}
@@ -13,8 +13,8 @@ use Rattle.profile.specs.declared.Mode.the-variants.{May, Must}
 use Rattle.profile.specs.declared.Rule.{Rule}
 use Rattle.profile.specs.Rules.{Lawful-rule}
 use Rattle.profile.specs.Profiles.{Lawful-slot, Lawful-slots, Lawful-profile}
-use Rattle.profile.specs.Kinds.{event-kind, keeps-kinds}
-use Rattle.profile.specs.Layers.{bare-rule, bare-slot, loosen-rule, loosen-slot, rename-rule, rename-slot}
+use Rattle.profile.specs.Kinds.{event-kind}
+use Rattle.profile.specs.Layers.{bare-rule, bare-slot, loosen-slot, rename-slot}
 use Rattle.profile.proofs.Renames.{table-kept, formed-event}
 
 pub slot-mapped : (f : Option Rule → Option Rule) → f None ≡ None → (slots : List (Option Rule)) (i : ℕ) (s : Option Rule) → s ≡ getD slots i None → f s ≡ getD (map f slots) i None

@@ -4,7 +4,7 @@ use native.Mathlib.Omega.{arith}
 use mathlib.Core.Path.{_≡_, refl, sym, ap, subst, _∙_}
 use mathlib.Core.Bool.{Bool, true, false, cond}
 use mathlib.Core.List.{List, [], _∷_, map}
-use mathlib.Core.Logic.{_⊎_, inl, inr}
+use mathlib.Core.Logic.{inl, inr}
 use lib.ListN.{getD}
 use Rattle.std.proofs.shelf.Tests.{cases-eq}
 use Rattle.std.specs.Iters.{counting}
@@ -15,9 +15,9 @@ use Rattle.profile.specs.declared.Mode.{Mode}
 use Rattle.profile.specs.declared.Mode.the-variants.{May, Must}
 use Rattle.profile.specs.declared.Rule.{Rule}
 use Rattle.profile.specs.Rules.{rule-key}
-use Rattle.profile.specs.Profiles.{Allows, Demands, Some-slot, May-rule, Must-rule, Just-when}
+use Rattle.profile.specs.Profiles.{Allows, Demands, Some-slot, May-rule, Must-rule}
 use Rattle.profile.specs.Opens.{free-rule, open-slot, open-slots, Opened}
-use Rattle.profile.specs.Layers.{bare-rule, bare-slot, bare-slots, Bared, loosen-rule, loosen-slot, loosen-slots, Loosened, rename-rule, rename-slot, rename-slots, Renamed}
+use Rattle.profile.specs.Layers.{bare-rule, bare-slot, bare-slots, Bared, loosen-slot, loosen-slots, Loosened, rename-rule, rename-slot, rename-slots, Renamed}
 
 -- from what holds of a slot above to what holds of the slot below it, and back
 module _ (f : Option Rule → Option Rule) (P Q : Option Rule → Type 0) where

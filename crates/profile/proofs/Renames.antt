@@ -2,12 +2,12 @@
 use Prim.Native.Nat.{ℕ, zero, suc, _+_, _<_, _≤_}
 use native.Mathlib.Omega.{arith}
 use mathlib.Core.Path.{_≡_, refl, sym, ap, _∙_}
-use mathlib.Core.Bool.{Bool, true, false, cond, _&&_}
-use mathlib.Core.List.{List, [], _∷_}
-use mathlib.Core.Logic.{_⊎_, inl, inr}
-use lib.Dec.{eqb, ltb}
+use mathlib.Core.Bool.{Bool, true, false, cond}
+use mathlib.Core.List.{List}
+use mathlib.Core.Logic.{inl, inr}
+use lib.Dec.{ltb}
 use lib.ListN.{getD}
-use Rattle.std.proofs.shelf.Tests.{eqb-true, eq-eqb, and-parts, and-from, both-ways, cases-eq, cases-lt, cases-bool, cond-true, cond-false, le-ltb, lt-ltb}
+use Rattle.std.proofs.shelf.Tests.{eqb-true, eq-eqb, and-parts, and-from, both-ways, cases-eq, cases-lt, cases-bool, cond-false, le-ltb, lt-ltb}
 use Rattle.std.specs.Iters.{counting}
 use Rattle.std.specs.declared.option.Option.{Option}
 use Rattle.std.specs.declared.option.Option.the-variants.{Some, None}

@@ -1,7 +1,7 @@
 // The interface of a profile: three questions, and what their answers mean. Whoever checks a profile asks these
 // and never looks inside.
 ghost use mathlib.Core.Path.{_≡_};
-ghost use mathlib.Core.List.{List, map};
+ghost use mathlib.Core.List.{List};
 ghost use Prim.Native.Nat.{ℕ};
 ghost use lib.ListN.{length, getD};
 ghost use Rattle.std.specs.declared.option.Option.{Option};

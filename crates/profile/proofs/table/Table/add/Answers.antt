@@ -1,8 +1,5 @@
-use Prim.Native.Nat.{_≤_, _+_}
 use mathlib.Core.Path.{_≡_, sym, _∙_}
-use native.Mathlib.Omega.{arith}
 use lib.ListN.{length}
-use borrow.Author.Needs.{needs}
 use Rattle.profile.proofs.Laws.{one-more, room-was-left}
 use Rattle.profile.proofs.table.Table.add.Needs as need
 

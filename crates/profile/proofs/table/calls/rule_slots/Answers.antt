@@ -1,5 +1,4 @@
 use mathlib.Core.Path.{sym}
-use mathlib.Core.List.{map}
 use lib.ListN.{length-map}
 use Rattle.std.specs.declared.option.Option.the-variants.{Some}
 use Rattle.profile.proofs.table.calls.rule_slots.Needs as need
