@@ -13,14 +13,14 @@ pub mod loosen;
 pub mod rename;
 
 // The number of slots below is that of any layer that works slot by slot.
-pub(crate) fn slots_below<P: Profile>(below: &P) -> usize
+fn slots_below<P: Profile>(below: &P) -> usize
     ensures { λ r. ⌜ ((f : Option Rule → Option Rule) → r ≡ length (map f (P·Profile .rules (now (below .entry))))) ⌝ }
 {
     below.slots()
 }
 
 // What a layer that works slot by slot, and leaves empty slots empty, makes of slot i below is its slot i.
-pub(crate) fn slot_below<P: Profile>(below: &P, i: usize) -> Option<Rule>
+fn slot_below<P: Profile>(below: &P, i: usize) -> Option<Rule>
     ensures { λ r. ⌜ ((f : Option Rule → Option Rule) → f None ≡ None → f r ≡ getD (map f (P·Profile .rules (now (below .entry)))) i None) ⌝ }
 {
     below.slot(i)
