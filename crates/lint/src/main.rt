@@ -4,13 +4,11 @@ use std::error::AnyError;
 use std::fs::File;
 use std::io::Read;
 use std::io::Write;
+use text::report::MOST_TOLD;
 use text::report::lint;
 
 // A text of over 20,000 bytes is refused, so no more of a file is read than shows that.
 const MOST_READ: u64 = 20001;
-
-// More than any report has: 96 slots of at most 40 bytes, and two lines more.
-const MOST_TOLD: usize = 4096;
 
 fn run(rt: &LibcRuntime) -> Result<(), AnyError> {
     let mut args = env::args(rt)?;

@@ -20,8 +20,8 @@ use Rattle.text.specs.declared.fault.SectionCause.the-variants.{WordNotDue, Nu
 use Rattle.text.specs.declared.words.Due.{Due}
 use Rattle.text.specs.declared.words.Due.the-variants.{Keyword, Number}
 use Rattle.text.specs.Faults.{section-fault}
-use Rattle.text.specs.Words.{Rest, Step, Spelled, next-word}
-use Rattle.text.specs.Sections.{and-then, there, text-end, word-due, read-keyword, plain-number, in-range, read-number, nothing-more, read-end}
+use Rattle.text.specs.Words.{text-end, Rest, Step, Spelled, next-word}
+use Rattle.text.specs.Sections.{and-then, there, word-due, read-keyword, plain-number, in-range, read-number, nothing-more, read-end}
 use Rattle.text.specs.Grammar.{Spaced}
 use Rattle.text.proofs.Spacing.{impossible, Takes, takes-none, takes-then, takes-as, Next, next-of, none-of, word-of, end-of}
 use Rattle.text.proofs.PlainNumbers.{number-reads-back, number-spelled-once}

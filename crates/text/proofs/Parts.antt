@@ -7,6 +7,7 @@ use Prim.Native.Nat.{ℕ, suc, _+_, _-_, _≤_}
 use native.Mathlib.Omega.{arith}
 use lib.Dec.{leb}
 use lib.ListN.{length, take, drop}
+use Rattle.std.proofs.shelf.Lists.{drop-drop}
 use Rattle.std.proofs.shelf.Tests.{cond-true, cond-false, cases-bool}
 use Rattle.std.specs.declared.option.Option.{Option}
 use Rattle.std.specs.declared.option.Option.the-variants.{Some, None}
@@ -37,6 +38,7 @@ part-on b t p w h =
       part = h .part ∙ ap (λ n. take (length (w .value .bytes)) (drop n (b ∷ t))) (sym e);
       after = h .after;
       rest = h .rest ∙ ap (λ n. drop n (b ∷ t)) (sym g);
+      whole = λ text e. h .whole text (ap (drop 1) e ∙ drop-drop 1 p text);
     }
 
 part-here : (k : Due) (t : List ℕ) (p n : ℕ) (w : Step Spelled) → Run t p n → (d : Bool) → found (cond d (Ok (record { value = record { kind = k; bytes = take (n - p) t; place = place-at p }; rest = record { bytes = drop (n - p) t; at = p + (n - p) } })) (Err (word-fault WordTooLong p))) ≡ Ok (Some w) → Part-of (left-at t p) w
@@ -50,6 +52,10 @@ part-here k t p n w r true h =
       part = sym (ap (λ m. take m t) (r .long)) ∙ ap (λ m. take (length (take (n - p) t)) (drop m t)) (sym z);
       after = ap (λ m. p + m) (sym (r .long));
       rest = ap (λ m. drop m t) (sym y);
+      whole = λ text e. (
+        sym (ap (λ m. take m t) (r .long)) ∙ ap (take (length (take (n - p) t))) e,
+        ap (drop (n - p)) e ∙ drop-drop (n - p) p text,
+      );
     })
 
 part-at : (k : Due) (t : List ℕ) (p : ℕ) (w : Step Spelled) (r : Result ℕ WordFault) → run-end t p ≡ r → found (cut-at k t p r) ≡ Ok (Some w) → Part-of (left-at t p) w

@@ -44,3 +44,6 @@ outcome-read text (Err f) was is h = sym (h .0)
 
 pub report-read : (text : List ℕ) (r : Result (Unit {0}) Fault) (was is : Table) → Read-into text r was is → report-of (outcome r is) ≡ lint-bytes text
 report-read text r was is h = ap report-of (outcome-read text r was is h)
+
+pub short-report : {was is : List ℕ} {n : ℕ} {xs ys : List ℕ} → xs ≡ ys → Wrote was 0 xs n is → n ≤ 20000 → length ys ≤ 20000
+short-report same w h = let e = w .ends in let l = ap length same in omega arith

@@ -32,8 +32,8 @@ use Rattle.text.specs.declared.fault.Cause.the-variants.{InWords, InSections, 
 use Rattle.text.specs.declared.words.Due.{Due}
 use Rattle.text.specs.declared.words.Due.the-variants as due
 use Rattle.text.specs.Faults.{place-at, word-fault}
-use Rattle.text.specs.Words.{is-blank, is-visible, Rest, Step, Spelled, run-end, cut, cut-at, word-at, found, next-from, next-word, begun, length-judged}
-use Rattle.text.specs.Sections.{and-then, there, text-end, word-due, read-keyword, in-range, plain-number, read-number, nothing-more, read-end}
+use Rattle.text.specs.Words.{text-end, is-blank, is-visible, Rest, Step, Spelled, run-end, cut, cut-at, word-at, found, next-from, next-word, begun, length-judged}
+use Rattle.text.specs.Sections.{and-then, there, word-due, read-keyword, in-range, plain-number, read-number, nothing-more, read-end}
 use Rattle.text.specs.ProfileText.{mode-word, event-names, index-of, more-names, read-names, known, read-index, read-mode, read-symbol-if, used-by, read-rule, more-rules, read-rules, read-start, read-body, read-sections, Reading, judged, read-profile, Read-into}
 use Rattle.text.specs.Grammar.{Blank, Visible, Blank-or-end}
 use Rattle.text.specs.Places.{byte-at, Begins, Stands, Fault-stands}

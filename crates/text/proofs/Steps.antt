@@ -10,7 +10,7 @@ use Rattle.std.proofs.shelf.Parts.{first-rest}
 use Rattle.std.proofs.shelf.Tests.{cond-true, cond-false}
 use Rattle.std.proofs.shelf.Ways.{tells}
 use Rattle.text.specs.declared.words.Due.{Due}
-use Rattle.text.specs.Words.{is-blank, is-visible, run-end, next-from, word-at, found}
+use Rattle.text.specs.Words.{is-blank, is-visible, run-end, next-from, word-at, found, skipped-from}
 use Rattle.text.specs.Sections.{is-digit, digits-after}
 
 pub run-more : (xs : List ℕ) (p : ℕ) → 0 < length xs → is-blank (getD xs 0 0) ≡ false → is-visible (getD xs 0 0) ≡ true → run-end (take (length xs - 1) (drop 1 xs)) (p + 1) ≡ run-end xs p
@@ -30,6 +30,18 @@ next-here k (x ∷ xs) p h b = cond-false _ _ _ b
 pub next-none : (k : Due) (xs : List ℕ) (p : ℕ) → length xs < 1 → next-from k xs p ≡ next-from k [] p
 next-none k [] p h = refl
 next-none k (x ∷ xs) p h = absurd (omega arith)
+
+-- blanks, one by one
+pub skip-more : (xs : List ℕ) (p : ℕ) → 0 < length xs → is-blank (getD xs 0 0) ≡ true → skipped-from (take (length xs - 1) (drop 1 xs)) (p + 1) ≡ skipped-from xs p
+skip-more xs p h b = sym (ap (λ l. skipped-from l p) (first-rest xs 0 h) ∙ cond-true _ _ _ b)
+
+pub skip-here : (xs : List ℕ) (p : ℕ) → 0 < length xs → is-blank (getD xs 0 0) ≡ false → skipped-from xs p ≡ record { bytes = xs; at = p }
+skip-here [] p h b = absurd (omega arith)
+skip-here (x ∷ xs) p h b = cond-false _ _ _ b
+
+pub skip-none : (xs : List ℕ) (p : ℕ) → length xs < 1 → skipped-from xs p ≡ record { bytes = xs; at = p }
+skip-none [] p h = refl
+skip-none (x ∷ xs) p h = absurd (omega arith)
 
 -- One turn of the reading of a number: n is read, k digits are left, and all of them fit.
 pub record Room (n k : ℕ) : Type 0 where

@@ -18,7 +18,7 @@ use Rattle.text.specs.declared.words.Due.the-variants.{Keyword, Number}
 use Rattle.text.specs.declared.words.Word.{Word}
 use Rattle.text.specs.declared.reader.Reader.{Reader}
 use Rattle.text.specs.Faults.{place-at, word-fault-in, section-fault}
-use Rattle.text.specs.Words.{Rest, Step, Spelled, rest-of, spelled, next-word}
+use Rattle.text.specs.Words.{Rest, Step, Spelled, rest-of, spelled, text-end, next-word}
 
 -- what comes next, unless there is a fault
 abbrev pub and-then : {T U E : Type 0} → Result T E → (T → Result U E) → Result U E
@@ -33,10 +33,6 @@ stepped (Err f) r = Err f
 abbrev pub taken : Result Word Fault → Reader → Result (Step Spelled) Fault
 taken (Ok w) r = Ok (record { value = spelled w; rest = rest-of r })
 taken (Err f) r = Err f
-
--- where the text ends
-abbrev pub text-end : Rest → ℕ
-text-end s = s .at + length (s .bytes)
 
 -- A word is due: the text must not end here.
 abbrev pub there : ℕ → Result (Option (Step Spelled)) WordFault → Result (Step Spelled) Fault

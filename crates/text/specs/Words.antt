@@ -36,6 +36,10 @@ pub record Rest : Type 0 where
 abbrev pub rest-of : Reader → Rest
 rest-of r = record { bytes = r .rest .now; at = r .at }
 
+-- where the text ends
+abbrev pub text-end : Rest → ℕ
+text-end s = s .at + length (s .bytes)
+
 -- something that was read, and what is left after it
 pub record Step (T : Type 0) : Type 0 where
   pub value : T
@@ -79,12 +83,23 @@ next-from k (b ∷ bs) p = cond (is-blank b) (next-from k bs (p + 1)) (found (wo
 abbrev pub next-word : Due → Rest → Result (Option (Step Spelled)) WordFault
 next-word k s = next-from k (s .bytes) (s .at)
 
+-- what is left once blanks are skipped
+abbrev pub skipped-from : List ℕ → ℕ → Rest
+skipped-from [] p = record { bytes = []; at = p }
+skipped-from (b ∷ bs) p = cond (is-blank b) (skipped-from bs (p + 1)) (record { bytes = b ∷ bs; at = p })
+
+abbrev pub skipped : Rest → Rest
+skipped s = skipped-from (s .bytes) (s .at)
+
 -- A word is the part of the text that begins at its place, and what is left begins right after it.
 pub record Part-of (s : Rest) (w : Step Spelled) : Type 0 where
   pub from : s .at ≤ w .value .place .offset
   pub part : w .value .bytes ≡ take (length (w .value .bytes)) (drop (w .value .place .offset - s .at) (s .bytes))
   pub after : w .rest .at ≡ w .value .place .offset + length (w .value .bytes)
   pub rest : w .rest .bytes ≡ drop (w .rest .at - s .at) (s .bytes)
+  -- of the whole text, where s is what it has from its offset on
+  pub whole : (text : List ℕ) → s .bytes ≡ drop (s .at) text →
+      (w .value .bytes ≡ take (length (w .value .bytes)) (drop (w .value .place .offset) text)) × (w .rest .bytes ≡ drop (w .rest .at) text)
 
 -- a text of over 20,000 bytes is not read at all
 abbrev pub length-judged : List ℕ → Result (Unit {0}) WordFault
@@ -108,6 +123,12 @@ seen (Err f) r = Err f
 abbrev pub parted : Result (Word × RefT (List ℕ)) WordFault → ℕ → Result (Step Spelled) WordFault
 parted (Ok w) p = Ok (record { value = spelled (w .0); rest = record { bytes = w .1 .now; at = p + length (spelled (w .0) .bytes) } })
 parted (Err f) p = Err f
+
+-- where there is no word, only the blanks are gone
+abbrev pub Blanks-gone : Result (Option Word) WordFault → Rest → Reader → Type 0
+Blanks-gone (Ok None) s r = rest-of r ≡ skipped s
+Blanks-gone (Ok (Some w)) s r = Unit {0}
+Blanks-gone (Err f) s r = rest-of r ≡ skipped s
 
 abbrev pub Word-is-part : Result (Option Word) WordFault → Rest → Reader → Type 0
 Word-is-part (Ok None) s r = Unit {0}

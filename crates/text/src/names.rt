@@ -6,7 +6,8 @@ ghost use lib.ListN.{length};
 ghost use Rattle.std.specs.Slices.{found};
 ghost use Rattle.std.specs.Vec.{made};
 ghost use Rattle.text.specs.Words.{rest-of};
-ghost use Rattle.text.specs.ProfileText.{texts, event-names, index-of, more-names, read-names, named};
+ghost use Rattle.text.specs.Report.{event-name};
+ghost use Rattle.text.specs.ProfileText.{texts, mode-word, event-names, index-of, more-names, read-names, named};
 use crate::fault::Fault;
 use crate::fault::ProfileCause;
 use crate::reader::Reader;
@@ -15,6 +16,7 @@ use crate::sections::keyword;
 use crate::sections::number;
 use crate::sections::word_due;
 use crate::words::Due;
+use profile::Mode;
 
 // Up to 16 names, each a part of the text; the first `count` places are held.
 #[derive(Clone, Copy)]
@@ -42,6 +44,30 @@ pub(crate) fn event_list() -> [&'static [u8]; 12]
         b"sent",
         b"leave",
     ]
+}
+
+// The word for a mode.
+pub(crate) fn mode_word(mode: Mode) -> &'static [u8]
+    ensures word { λ r. ⌜ now r ≡ mode-word mode ⌝ }
+    ensures bound { λ r. ⌜ length (now r) ≤ 4 ⌝ }
+{
+    match mode {
+        Mode::May => b"may",
+        Mode::Must => b"must",
+    }
+}
+
+// The name of an event; no bytes where there is no such event.
+pub(crate) fn event_name(event: u8) -> &'static [u8]
+    ensures word { λ r. ⌜ now r ≡ event-name event ⌝ }
+    ensures bound { λ r. ⌜ length (now r) ≤ 7 ⌝ }
+{
+    let names = event_list();
+    if event < 12 {
+        names[event as usize]
+    } else {
+        b""
+    }
 }
 
 // The number of a name: its position among the names.

@@ -19,6 +19,7 @@ use crate::fault::Place;
 use crate::fault::ProfileCause;
 use crate::fault::SectionCause;
 use crate::names::event_list;
+use crate::names::mode_word;
 use crate::names::name_section;
 use crate::names::position;
 use crate::reader::Reader;
@@ -52,10 +53,10 @@ fn mode(reader: &mut Reader<'_>) -> Result<(Mode, Place), Fault>
     ensures { λ r. ⌜ stepped r (now (reader .exit)) ≡ read-mode (rest-of (now (reader .entry))) ⌝ }
 {
     let word = word_due(reader, Due::Keyword)?;
-    if alike(word.bytes(), b"may") {
+    if alike(word.bytes(), mode_word(Mode::May)) {
         return Ok((Mode::May, word.place()));
     }
-    if alike(word.bytes(), b"must") {
+    if alike(word.bytes(), mode_word(Mode::Must)) {
         return Ok((Mode::Must, word.place()));
     }
     Err(Fault::section(SectionCause::WordNotDue, word.place()))

@@ -1,49 +1,24 @@
 // What is told of a profile text, as bytes that the caller lends.
 ghost use mathlib.Core.Path.{_≡_};
-ghost use mathlib.Core.List.{[], _++_};
 ghost use Prim.Native.Nat.{_+_, _*_, _^_, _≤_};
-ghost use lib.ListN.{length, getD};
-ghost use Rattle.text.specs.ProfileText.{mode-word, reading-of};
+ghost use lib.ListN.{length};
+ghost use Rattle.text.specs.ProfileText.{reading-of};
 ghost use Rattle.text.specs.Writing.{Wrote, write-answer, write-after};
-ghost use Rattle.text.specs.Report.{line-end, shown-word, shown-number, shown-symbol-if, event-name, slot-line, slot-lines, start-line, shown-place, refusal-line, accepted-lines, report-of, lint-bytes, outcome};
+ghost use Rattle.text.specs.Report.{line-end, shown-word, shown-number, shown-symbol-if, slot-line, slot-lines, start-line, shown-place, refusal-line, accepted-lines, report-of, lint-bytes, outcome};
 use crate::fault::Fault;
 use crate::fault::Place;
-use crate::names::event_list;
+use crate::names::event_name;
+use crate::names::mode_word;
 use crate::profiles::read_profile;
 use crate::profiles::used_by;
 use crate::write::TooFewBytes;
 use crate::write::put;
 use crate::write::put_byte;
 use crate::write::put_number;
-use profile::Mode;
 use profile::Profile;
 use profile::Rule;
 use profile::Table;
 use profile::TableProfile;
-
-// The word for a mode.
-pub fn mode_word(mode: Mode) -> &'static [u8]
-    ensures word { λ r. ⌜ now r ≡ mode-word mode ⌝ }
-    ensures bound { λ r. ⌜ length (now r) ≤ 4 ⌝ }
-{
-    match mode {
-        Mode::May => b"may",
-        Mode::Must => b"must",
-    }
-}
-
-// The name of an event; no bytes where there is no such event.
-pub fn event_name(event: u8) -> &'static [u8]
-    ensures word { λ r. ⌜ now r ≡ event-name event ⌝ }
-    ensures bound { λ r. ⌜ length (now r) ≤ 7 ⌝ }
-{
-    let names = event_list();
-    if event < 12 {
-        names[event as usize]
-    } else {
-        b""
-    }
-}
 
 // A blank and a word.
 fn put_word(out: &mut [u8], at: usize, word: &[u8]) -> usize
@@ -125,7 +100,8 @@ fn put_slots(out: &mut [u8], at: usize, rules: &[Rule]) -> usize
 
 // The reading of an accepted text.
 fn put_accepted(out: &mut [u8], table: &Table) -> usize
-    ensures { λ r. ⌜ Wrote (now (out .entry)) 0 (accepted-lines (reading-of (now (table .entry)))) r (now (out .exit)) ⌝ }
+    ensures wrote { λ r. ⌜ Wrote (now (out .entry)) 0 (accepted-lines (reading-of (now (table .entry)))) r (now (out .exit)) ⌝ }
+    ensures bound { λ r. ⌜ r ≤ 20000 ⌝ }
 {
     let at = put(out, 0, b"accepted");
     let at = put_byte(out, at, 10);
@@ -163,7 +139,8 @@ fn put_refusal(out: &mut [u8], at: usize, fault: &Fault) -> usize
 
 // The report of a reading, as much of it as fits; the answer is its whole length.
 fn put_report(out: &mut [u8], told: &Result<(), Fault>, table: &Table) -> usize
-    ensures { λ r. ⌜ Wrote (now (out .entry)) 0 (report-of (outcome (now (told .entry)) (now (table .entry)))) r (now (out .exit)) ⌝ }
+    ensures wrote { λ r. ⌜ Wrote (now (out .entry)) 0 (report-of (outcome (now (told .entry)) (now (table .entry)))) r (now (out .exit)) ⌝ }
+    ensures bound { λ r. ⌜ r ≤ 20000 ⌝ }
 {
     match told {
         Ok(()) => put_accepted(out, table),
@@ -171,10 +148,14 @@ fn put_report(out: &mut [u8], told: &Result<(), Fault>, table: &Table) -> usize
     }
 }
 
+// As many bytes are enough for every report.
+pub const MOST_TOLD: usize = 20000;
+
 // Judges a profile text and writes what is to be told of it: the reading or the fault. Tells how many bytes that is.
 pub fn lint(text: &[u8], out: &mut [u8]) -> Result<usize, TooFewBytes>
     ensures answer { λ r. ⌜ r ≡ write-answer (lint-bytes (now (text .entry))) (now (out .entry)) ⌝ }
     ensures after { λ r. ⌜ now (out .exit) ≡ write-after (lint-bytes (now (text .entry))) (now (out .entry)) ⌝ }
+    ensures short { λ _. ⌜ length (lint-bytes (now (text .entry))) ≤ 20000 ⌝ }
 {
     let mut table = Table::new();
     let told = read_profile(text, &mut table);

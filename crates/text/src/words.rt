@@ -3,7 +3,8 @@ ghost use mathlib.Core.Path.{_≡_};
 ghost use Prim.Native.Nat.{_+_, _^_, _<_, _≤_};
 ghost use lib.ListN.{length};
 ghost use Rattle.std.specs.Vec.{made};
-ghost use Rattle.text.specs.Words.{is-blank, is-visible, run-end, word-at, next-word, begun, length-judged, rest-of, spelled, seen, parted, Word-is-part};
+ghost use Rattle.text.specs.Faults.{place-at};
+ghost use Rattle.text.specs.Words.{is-blank, is-visible, run-end, word-at, next-word, begun, length-judged, rest-of, spelled, seen, parted, text-end, Blanks-gone, Word-is-part};
 use crate::fault::Place;
 use crate::fault::WordCause;
 use crate::fault::WordFault;
@@ -134,7 +135,7 @@ impl<'a> Reader<'a> {
 
     // The place where the text ends.
     pub fn end(&self) -> Place
-        ensures { λ r. ⌜ r .offset ≡ now (self .entry) .at + length (now (now (self .entry) .rest)) ⌝ }
+        ensures { λ r. ⌜ r ≡ place-at (text-end (rest-of (now (self .entry)))) ⌝ }
     {
         Place {
             offset: self.at + self.rest.len(),
@@ -144,7 +145,8 @@ impl<'a> Reader<'a> {
     // Skips blanks and takes the next word, if there is one.
     fn advance(&mut self, due: Due) -> Result<Option<Word<'a>>, WordFault>
         ensures value { λ r. ⌜ seen r (now (self .exit)) ≡ next-word due (rest-of (now (self .entry))) ⌝ }
-        ensures end { λ _. ⌜ now (self .exit) .at + length (now (now (self .exit) .rest)) ≡ now (self .entry) .at + length (now (now (self .entry) .rest)) ⌝ }
+        ensures left { λ r. ⌜ Blanks-gone r (rest-of (now (self .entry))) (now (self .exit)) ⌝ }
+        ensures end { λ _. ⌜ text-end (rest-of (now (self .exit))) ≡ text-end (rest-of (now (self .entry))) ⌝ }
     {
         while let [b, more @ ..] = self.rest {
             if !is_blank(*b) {
@@ -163,7 +165,8 @@ impl<'a> Reader<'a> {
     pub fn next(&mut self, due: Due) -> Result<Option<Word<'a>>, WordFault>
         ensures value { λ r. ⌜ seen r (now (self .exit)) ≡ next-word due (rest-of (now (self .entry))) ⌝ }
         ensures part { λ r. ⌜ Word-is-part r (rest-of (now (self .entry))) (now (self .exit)) ⌝ }
-        ensures end { λ _. ⌜ now (self .exit) .at + length (now (now (self .exit) .rest)) ≡ now (self .entry) .at + length (now (now (self .entry) .rest)) ⌝ }
+        ensures left { λ r. ⌜ Blanks-gone r (rest-of (now (self .entry))) (now (self .exit)) ⌝ }
+        ensures end { λ _. ⌜ text-end (rest-of (now (self .exit))) ≡ text-end (rest-of (now (self .entry))) ⌝ }
     {
         self.advance(due)
     }

@@ -1,7 +1,7 @@
 use mathlib.Core.Path.{sym, ap, subst, _∙_}
 use native.Mathlib.Omega.{arith}
 use Rattle.text.proofs.EventNames.{name-listed, name-short}
-use Rattle.text.proofs.report.event_name.Needs as need
+use Rattle.text.proofs.names.event_name.Needs as need
 
 pub returns-then-event-lt12 : need.returns-then-event-lt12
 returns-then-event-lt12 c =
