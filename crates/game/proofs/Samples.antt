@@ -84,6 +84,10 @@ modes = record {
 
 pub heads : Heads-have-the-station-first
 heads = record {
+  side-0 = refl;
+  side-1 = refl;
+  no-side-2 = refl;
+  starts-side-by-side = refl;
   station-attacks-at = (inl refl, refl, refl);
   manual-attacks-at = (inl refl, refl, refl);
   manual-does-not-attack-swapped = λ t. false≢true (t .2);
@@ -113,6 +117,7 @@ nothing = record {
   empty-slots-have-no-transition = λ c d event t. not-in-empty (t .0) (t .1);
   empty-stack-has-no-transition = λ kinds slots state event d t. no-stack state (at (t .0 .state) (t .0 .top ∷ t .3 .0)) (t .0 .top) (t .3 .0) (t .3 .1) refl;
   no-attack-on-empty-stacks = empty-stacks;
+  no-reply-of-the-station-on-an-empty-stack = λ station manual r s c p t. false≢true (t .3);
   no-reply-on-an-empty-stack = λ station manual r s c q t. false≢true (t .3);
 }
 

@@ -1,5 +1,6 @@
 -- What is derivable depends only on which may rules and which must rules there are.
 use mathlib.Core.Path.{_≡_, refl, sym, ap, subst, _∙_}
+use mathlib.Core.Logic.{inl, inr}
 use mathlib.Core.List.{List, [], _∷_}
 use mathlib.Core.Bool.{true}
 use Prim.Native.Nat.{ℕ}
@@ -7,7 +8,7 @@ use Rattle.std.specs.declared.option.Option.{Option}
 use Rattle.std.specs.declared.option.Option.the-variants.{Some, None}
 use Rattle.ordered.specs.Laws.{In}
 use Rattle.ordered.proofs.Orders.{same-elements-same-list}
-use Rattle.profile.specs.declared.Mode.the-variants.{May}
+use Rattle.profile.specs.declared.Mode.the-variants.{May, Must}
 use Rattle.profile.specs.declared.Kind.{Kind}
 use Rattle.profile.specs.declared.Kind.the-variants.{Open, Step, Close}
 use Rattle.profile.specs.declared.Rule.{Rule}
@@ -16,6 +17,7 @@ use Rattle.game.specs.declared.Head.{Head}
 use Rattle.game.specs.declared.Pairs.{Pairs}
 use Rattle.game.specs.declared.Member.{Member}
 use Rattle.game.specs.Members.{Attack-row, member-le}
+use Rattle.profile.specs.Profiles.{Allows, Demands, Some-slot, May-rule, Must-rule}
 use Rattle.game.specs.Systems.{Configuration, Same-rules}
 use Rattle.game.specs.Game.{Position, Side, by-station, by-manual, of-attacker, of-replier, playable, matches, applies, Attack, Reply}
 use Rattle.game.specs.Rows.{head-on, starts, pushed-pairs, leads-to, answers, entered, Derivable, enter-start, enter-top, join}
@@ -66,6 +68,24 @@ same-applies r r′ c e t =
 same-event : (r r′ : Rule) → rule-key r ≡ rule-key r′ → r .event ≡ r′ .event
 same-event r r′ e = ap (λ (x : Rule). x .event) (same-bare r r′ e)
 
+-- a slot that is so, and which one it is
+some-slot : (P : Option Rule → Type 0) (slots : List (Option Rule)) (o : Option Rule) → In o slots → P o → Some-slot P slots
+some-slot P [] o k h = k
+some-slot P (q ∷ slots) o (inl e) h = inl (subst P e h)
+some-slot P (q ∷ slots) o (inr k) h = inr (some-slot P slots o k h)
+
+allowed-by : (slots : List (Option Rule)) (r : Rule) → May-rule slots r → (s : Rule) × In (Some s) slots × (rule-key s ≡ rule-key r)
+allowed-by [] r h = absurd h
+allowed-by (None ∷ slots) r (inl h) = absurd h
+allowed-by (Some s ∷ slots) r (inl e) = (s, inl refl, e)
+allowed-by (o ∷ slots) r (inr h) = let p = allowed-by slots r h in (p .0, inr (p .1), p .2)
+
+demanded-by : (slots : List (Option Rule)) (r : Rule) → Must-rule slots r → (s : Rule) × In (Some s) slots × (s .mode ≡ Must) × (rule-key s ≡ rule-key r)
+demanded-by [] r h = absurd h
+demanded-by (None ∷ slots) r (inl h) = absurd h
+demanded-by (Some s ∷ slots) r (inl e) = (s, inl refl, e .0, e .1)
+demanded-by (o ∷ slots) r (inr h) = let p = demanded-by slots r h in (p .0, inr (p .1), p .2, p .3)
+
 -- the rule of the same key that the other slots play for it
 record Counterpart (side : Side) (others : List (Option Rule)) (r : Rule) : Type 0 where
   rule : Rule
@@ -75,14 +95,14 @@ record Counterpart (side : Side) (others : List (Option Rule)) (r : Rule) : Type
 
 counterpart : (side : Side) (slots others : List (Option Rule)) → Same-rules slots others → (r : Rule) → In (Some r) slots → playable side r ≡ true → Counterpart side others r
 counterpart by-station slots others same r k p =
-    let (s, l, e) = same .may (rule-key r) .0 (r, k, refl) in
-    record { rule = s; there = l; plays = refl; same = sym e }
+    let q = allowed-by others r (same .may r .0 (some-slot (Allows r) slots (Some r) k refl)) in
+    record { rule = q .0; there = q .1; plays = refl; same = sym (q .2) }
 counterpart by-manual slots others same r k p =
-    let (s, l, e, m) = same .must (rule-key r) .0 (r, k, refl, must-means (r .mode) p) in
-    record { rule = s; there = l; plays = must-shown (s .mode) m; same = sym e }
+    let q = demanded-by others r (same .must r .0 (some-slot (Demands r) slots (Some r) k (must-means (r .mode) p, refl))) in
+    record { rule = q .0; there = q .1; plays = must-shown (q .0 .mode) (q .2); same = sym (q .3) }
 
 pub turned : (slots others : List (Option Rule)) → Same-rules slots others → Same-rules others slots
-turned slots others same = record { may = λ key. (same .may key .1, same .may key .0); must = λ key. (same .must key .1, same .must key .0) }
+turned slots others same = record { may = λ r. (same .may r .1, same .may r .0); must = λ r. (same .must r .1, same .must r .0) }
 
 module _ (station station′ manual manual′ : List (Option Rule)) (ss : Same-rules station station′) (ms : Same-rules manual manual′) where
   of-attackers : (side : Side) → Same-rules (of-attacker side station manual) (of-attacker side station′ manual′)

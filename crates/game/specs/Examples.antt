@@ -19,8 +19,8 @@ use Rattle.game.specs.declared.Pairs.the-variants.{Zero, One, Two}
 use Rattle.game.specs.declared.Member.{Member}
 use Rattle.game.specs.Members.{Attack-row, top-of, member-le}
 use Rattle.game.specs.Systems.{Configuration, induced}
-use Rattle.game.specs.Game.{Position, Side, by-station, by-manual, applies, after, Attack, Reply, Wins}
-use Rattle.game.specs.Rows.{starts, leads-to, entered, Derivable, rounds, refuting}
+use Rattle.game.specs.Game.{Position, Side, by-station, by-manual, side-of, applies, after, Attack, Reply, Wins}
+use Rattle.game.specs.Rows.{head-of-starts, starts, leads-to, entered, Derivable, rounds, refuting}
 use Rattle.game.specs.Computed.{called-for, joined}
 use Rattle.game.specs.Theorems.{Refines}
 
@@ -104,6 +104,10 @@ manual-step = record { mode = Must; state = 3; top = 4; event = 1; next = 5; upp
 
 -- Whoever attacks, heads and members have the station first.
 pub record Heads-have-the-station-first : Type 0 where
+  pub side-0 : side-of 0 ≡ Some by-station
+  pub side-1 : side-of 1 ≡ Some by-manual
+  pub no-side-2 : side-of 2 ≡ None
+  pub starts-side-by-side : head-of-starts (1, 2) (3, 4) ≡ head 1 3 2 4
   pub station-attacks-at : Attack (Some station-step ∷ []) (Some manual-step ∷ []) by-station station-step (starts (head 1 3 2 4))
   pub manual-attacks-at : Attack (Some station-step ∷ []) (Some manual-step ∷ []) by-manual manual-step (starts (head 1 3 2 4))
   pub manual-does-not-attack-swapped : Attack (Some station-step ∷ []) (Some manual-step ∷ []) by-manual manual-step (starts (head 3 1 4 2)) → ⊥
@@ -119,6 +123,8 @@ pub record Nothing-comes-of-nothing : Type 0 where
   pub empty-stack-has-no-transition : (kinds : ℕ → Option Kind) (slots : List (Option Rule)) (state event : ℕ) (d : Configuration) → induced kinds slots .may (at state []) event d → ⊥
   pub no-attack-on-empty-stacks : (station manual : List (Option Rule)) (side : Side) (r : Rule) (p q : ℕ) →
       Attack station manual side r (record { station = at p []; manual = at q [] }) → ⊥
+  pub no-reply-of-the-station-on-an-empty-stack : (station manual : List (Option Rule)) (r s : Rule) (c : Configuration) (p : ℕ) →
+      Reply station manual by-manual r s (record { station = at p []; manual = c }) → ⊥
   pub no-reply-on-an-empty-stack : (station manual : List (Option Rule)) (r s : Rule) (c : Configuration) (q : ℕ) →
       Reply station manual by-station r s (record { station = c; manual = at q [] }) → ⊥
 

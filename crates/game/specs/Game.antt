@@ -5,7 +5,7 @@ use mathlib.Core.Bool.{Bool, true, false, _&&_}
 use mathlib.Core.List.{List, [], _∷_, _++_, tail}
 use lib.Dec.{eqb}
 use Rattle.std.specs.declared.option.Option.{Option}
-use Rattle.std.specs.declared.option.Option.the-variants.{Some}
+use Rattle.std.specs.declared.option.Option.the-variants.{Some, None}
 use Rattle.ordered.specs.Laws.{In}
 use Rattle.profile.specs.declared.Mode.{Mode}
 use Rattle.profile.specs.declared.Mode.the-variants.{May, Must}
@@ -21,6 +21,12 @@ pub record Position : Type 0 where
 -- who attacks; the other side replies
 pub data Side : Type 0 where
   by-station by-manual : Side
+
+-- sides by number, as lines have them: 0 is the station, 1 the manual, and there is no other
+abbrev pub side-of : ℕ → Option Side
+side-of zero = Some by-station
+side-of (suc zero) = Some by-manual
+side-of (suc (suc n)) = None
 
 -- of the station's and the manual's, the attacking side's, and the replying side's
 abbrev pub of-attacker : {A : Type 0} → Side → A → A → A

@@ -45,6 +45,13 @@ head-on h a b = record {
   manual = record { state = h .states .manual; stack = h .symbols .manual ∷ b };
 }
 
+-- the head of two starts, each a state and a symbol: the station's first
+abbrev pub head-of-starts : ℕ × ℕ → ℕ × ℕ → Head
+head-of-starts station manual = record {
+  states = record { station = station .0; manual = manual .0 };
+  symbols = record { station = station .1; manual = manual .1 };
+}
+
 -- the starts: the head of the two starts, with nothing below
 abbrev pub starts : Head → Position
 starts start = head-on start [] []

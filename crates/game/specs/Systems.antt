@@ -9,7 +9,7 @@ use Rattle.profile.specs.declared.Mode.the-variants.{Must}
 use Rattle.profile.specs.declared.Kind.{Kind}
 use Rattle.profile.specs.declared.Kind.the-variants.{Open, Step, Close}
 use Rattle.profile.specs.declared.Rule.{Rule}
-use Rattle.profile.specs.Rules.{rule-key}
+use Rattle.profile.specs.Profiles.{May-rule, Must-rule}
 
 -- each of two statements gives the other
 abbrev pub Exactly-when : Type 0 → Type 0 → Type 0
@@ -67,14 +67,7 @@ induced kinds slots = record {
   must-within-may = λ p event q t. (t .0, t .1, t .2, t .3);
 }
 
--- the rule with this key, which is all but the mode, is a may rule, and a must rule, of the slots
-abbrev pub Has-may : List (Option Rule) → List ℕ → Type 0
-Has-may slots key = (r : Rule) × In (Some r) slots × (rule-key r ≡ key)
-
-abbrev pub Has-must : List (Option Rule) → List ℕ → Type 0
-Has-must slots key = (r : Rule) × In (Some r) slots × (rule-key r ≡ key) × (r .mode ≡ Must)
-
 -- the same may rules and the same must rules stand in both, in whatever slots and however often
 pub record Same-rules (slots others : List (Option Rule)) : Type 0 where
-  pub may : (key : List ℕ) → Exactly-when (Has-may slots key) (Has-may others key)
-  pub must : (key : List ℕ) → Exactly-when (Has-must slots key) (Has-must others key)
+  pub may : (r : Rule) → Exactly-when (May-rule slots r) (May-rule others r)
+  pub must : (r : Rule) → Exactly-when (Must-rule slots r) (Must-rule others r)
