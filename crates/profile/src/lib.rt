@@ -9,10 +9,10 @@ use ordered::Keyed;
 mod entries;
 mod event_table;
 mod interface;
+#[cfg(test)]
+mod layer_tests;
 mod layers;
 mod open_profile;
-#[cfg(test)]
-mod piles;
 mod table;
 
 pub use event_table::EventTable;

@@ -1,6 +1,6 @@
 // The open profile: it stores only a set of events, and each of them may happen in state 0 on symbol 0.
 ghost use mathlib.Core.Path.{_≡_};
-ghost use lib.ListN.{getD};
+ghost use lib.ListN.{length, getD};
 ghost use Rattle.std.specs.declared.option.Option.the-variants.{None};
 ghost use Rattle.profile.specs.Opens.{free-rule, open-slots, open-start, Opened};
 use crate::Mode;
@@ -27,6 +27,15 @@ impl OpenProfile {
         ensures meaning { λ _. ⌜ Opened (now (self .entry) .events) (open-slots (now (self .entry) .events)) ⌝ }
     {
         &self.events
+    }
+
+    // What it answers as a profile, by its set: the number of slots, slot i and the start.
+    pub fn answers(&self, i: usize) -> (usize, Option<Rule>, (u8, u8))
+        ensures slots { λ r. ⌜ r .0 ≡ length (open-slots (now (self .entry) .events)) ⌝ }
+        ensures slot { λ r. ⌜ r .1 ≡ getD (open-slots (now (self .entry) .events)) i None ⌝ }
+        ensures start { λ r. ⌜ r .2 ≡ open-start ⌝ }
+    {
+        (self.slots(), self.slot(i), self.start())
     }
 }
 

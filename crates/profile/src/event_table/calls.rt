@@ -22,7 +22,7 @@ impl NotRenaming {
 }
 
 // Whether there are two such events, of one kind.
-fn alike(a: u8, b: u8) -> bool
+fn of_one_kind(a: u8, b: u8) -> bool
     ensures { λ r. ⌜ r ≡ same-kind (event-kind a) (event-kind b) ⌝ }
 {
     match kind_of(a) {
@@ -41,7 +41,7 @@ fn renames(events: &[u8; 12]) -> bool
     ensures broken { λ r. ⌜ (r ≡ false → Breaks (now (events .entry))) ⌝ }
 {
     for e in 0..12u8 {
-        if !alike(events[e as usize], e) {
+        if !of_one_kind(events[e as usize], e) {
             return false;
         }
     }

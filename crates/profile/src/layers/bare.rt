@@ -1,5 +1,7 @@
 // The bare profile keeps what must happen: every slot whose rule is may is empty.
 ghost use mathlib.Core.Path.{_≡_};
+ghost use lib.ListN.{length, getD};
+ghost use Rattle.std.specs.declared.option.Option.the-variants.{None};
 ghost use Rattle.profile.specs.Layers.{bare-slot, bare-slots, Bared};
 use crate::Mode;
 use crate::Profile;
@@ -13,6 +15,7 @@ pub struct Bare<P> {
 }
 
 impl<P> Bare<P> {
+    // What must happen in the profile below, and nothing else.
     pub fn new(below: P) -> Bare<P>
         ensures value { λ r. ⌜ r .below ≡ below ⌝ }
     {
@@ -27,6 +30,15 @@ impl<P: Profile> Bare<P> {
         ensures meaning { λ _. ⌜ Bared (P·Profile .rules (now (self .entry) .below)) (bare-slots (P·Profile .rules (now (self .entry) .below))) ⌝ }
     {
         &self.below
+    }
+
+    // What the layer answers as a profile, by the profile below: the number of slots, slot i and the start.
+    pub fn answers(&self, i: usize) -> (usize, Option<Rule>, (u8, u8))
+        ensures slots { λ r. ⌜ r .0 ≡ length (bare-slots (P·Profile .rules (now (self .entry) .below))) ⌝ }
+        ensures slot { λ r. ⌜ r .1 ≡ getD (bare-slots (P·Profile .rules (now (self .entry) .below))) i None ⌝ }
+        ensures start { λ r. ⌜ r .2 ≡ P·Profile .origin (now (self .entry) .below) ⌝ }
+    {
+        (self.slots(), self.slot(i), self.start())
     }
 }
 

@@ -1,5 +1,7 @@
 // The loosened profile: must becomes may for a set of events.
 ghost use mathlib.Core.Path.{_≡_};
+ghost use lib.ListN.{length, getD};
+ghost use Rattle.std.specs.declared.option.Option.the-variants.{None};
 ghost use Rattle.profile.specs.Layers.{loosen-slot, loosen-slots, Loosened};
 use crate::Mode;
 use crate::Profile;
@@ -15,6 +17,7 @@ pub struct Loosen<P> {
 }
 
 impl<P> Loosen<P> {
+    // The profile below, in which the events that are marked no longer must happen.
     pub fn new(events: [bool; 12], below: P) -> Loosen<P>
         ensures set { λ r. ⌜ r .events ≡ events ⌝ }
         ensures value { λ r. ⌜ r .below ≡ below ⌝ }
@@ -30,6 +33,15 @@ impl<P: Profile> Loosen<P> {
         ensures meaning { λ _. ⌜ Loosened (now (self .entry) .events) (P·Profile .rules (now (self .entry) .below)) (loosen-slots (now (self .entry) .events) (P·Profile .rules (now (self .entry) .below))) ⌝ }
     {
         &self.below
+    }
+
+    // What the layer answers as a profile, by the profile below: the number of slots, slot i and the start.
+    pub fn answers(&self, i: usize) -> (usize, Option<Rule>, (u8, u8))
+        ensures slots { λ r. ⌜ r .0 ≡ length (loosen-slots (now (self .entry) .events) (P·Profile .rules (now (self .entry) .below))) ⌝ }
+        ensures slot { λ r. ⌜ r .1 ≡ getD (loosen-slots (now (self .entry) .events) (P·Profile .rules (now (self .entry) .below))) i None ⌝ }
+        ensures start { λ r. ⌜ r .2 ≡ P·Profile .origin (now (self .entry) .below) ⌝ }
+    {
+        (self.slots(), self.slot(i), self.start())
     }
 }
 

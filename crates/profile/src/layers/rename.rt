@@ -1,5 +1,7 @@
 // The renamed profile: each event is replaced by what a table tells for it.
 ghost use mathlib.Core.Path.{_≡_};
+ghost use lib.ListN.{length, getD};
+ghost use Rattle.std.specs.declared.option.Option.the-variants.{None};
 ghost use Rattle.profile.specs.Layers.{rename-slot, rename-slots, Renamed};
 use crate::EventTable;
 use crate::Profile;
@@ -14,6 +16,7 @@ pub struct Rename<P> {
 }
 
 impl<P> Rename<P> {
+    // The profile below under the new names.
     pub fn new(table: EventTable, below: P) -> Rename<P>
         ensures names { λ r. ⌜ r .table ≡ table ⌝ }
         ensures value { λ r. ⌜ r .below ≡ below ⌝ }
@@ -29,6 +32,15 @@ impl<P: Profile> Rename<P> {
         ensures meaning { λ _. ⌜ Renamed (now (self .entry) .table) (P·Profile .rules (now (self .entry) .below)) (rename-slots (now (self .entry) .table) (P·Profile .rules (now (self .entry) .below))) ⌝ }
     {
         &self.below
+    }
+
+    // What the layer answers as a profile, by the profile below: the number of slots, slot i and the start.
+    pub fn answers(&self, i: usize) -> (usize, Option<Rule>, (u8, u8))
+        ensures slots { λ r. ⌜ r .0 ≡ length (rename-slots (now (self .entry) .table) (P·Profile .rules (now (self .entry) .below))) ⌝ }
+        ensures slot { λ r. ⌜ r .1 ≡ getD (rename-slots (now (self .entry) .table) (P·Profile .rules (now (self .entry) .below))) i None ⌝ }
+        ensures start { λ r. ⌜ r .2 ≡ P·Profile .origin (now (self .entry) .below) ⌝ }
+    {
+        (self.slots(), self.slot(i), self.start())
     }
 }
 

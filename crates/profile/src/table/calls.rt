@@ -89,6 +89,15 @@ impl Table {
     {
         &self.rules[0..self.count]
     }
+
+    // What it answers as a profile, by its rules: the number of slots, slot i and the start.
+    pub fn answers(&self, i: usize) -> (usize, Option<Rule>, (u8, u8))
+        ensures slots { λ r. ⌜ r .0 ≡ length (map Some (table-rules (now (self .entry)))) ⌝ }
+        ensures slot { λ r. ⌜ r .1 ≡ getD (map Some (table-rules (now (self .entry)))) i None ⌝ }
+        ensures start { λ r. ⌜ r .2 ≡ table-start (now (self .entry)) ⌝ }
+    {
+        (self.slots(), self.slot(i), self.start())
+    }
 }
 
 // The slots of a row of rules, one to a slot.

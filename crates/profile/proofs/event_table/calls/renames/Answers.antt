@@ -4,9 +4,9 @@ use Rattle.std.proofs.shelf.Tests.{both-ways}
 use Rattle.profile.proofs.Renames.{table-taken, table-kept, table-broken, refused-kind}
 use Rattle.profile.proofs.event_table.calls.renames.Needs as need
 
-pub returns-then-not-alike : need.returns-then-not-alike
-returns-then-not-alike c =
-    let off = sym (c .if-not-alike .ensures tt) in
+pub returns-then-not-of-one-kind : need.returns-then-not-of-one-kind
+returns-then-not-of-one-kind c =
+    let off = sym (c .if-not-of-one-kind .ensures tt) in
     let h = c .loop-e-test .taken in
     record {
       value = sym (table-broken (c .args .events .now) (c .loop-e .e) h off);
