@@ -3,10 +3,10 @@
 use profile::Bare;
 use profile::BareProfile;
 use profile::EventTable;
-use profile::EventsProfile;
 use profile::Loosen;
 use profile::LoosenProfile;
 use profile::OpenProfile;
+use profile::OpenProfileProfile;
 use profile::Profile;
 use profile::Rename;
 use profile::RenameProfile;

@@ -16,8 +16,9 @@ use Rattle.profile.specs.declared.Mode.the-variants.{May, Must}
 use Rattle.profile.specs.declared.Rule.{Rule}
 use Rattle.profile.specs.Rules.{rule-key}
 use Rattle.profile.specs.Profiles.{Allows, Demands, Some-slot, May-rule, Must-rule}
-use Rattle.profile.specs.Opens.{free-rule, open-slot, open-slots, Opened}
-use Rattle.profile.specs.Layers.{bare-rule, bare-slot, bare-slots, Bared, loosen-slot, loosen-slots, Loosened, rename-rule, rename-slot, rename-slots, Renamed}
+use Rattle.profile.specs.Opens.{free-rule, open-slot, open-slots, Free, Opened}
+use Rattle.profile.specs.Layers.{bare-rule, bare-slot, bare-slots, Bared, loosen-slot, loosen-slots, Loosened, rename-rule, rename-slot, rename-slots, Event-replaced, Slot-replaced, Renamed}
+use Rattle.profile.proofs.Layerings.{slot-mapped}
 
 -- from what holds of a slot above to what holds of the slot below it, and back
 module _ (f : Option Rule → Option Rule) (P Q : Option Rule → Type 0) where
@@ -127,16 +128,51 @@ module _ (table : EventTable) where
   unfolding new-key
   renamed-key u s e = ap new-key e
 
-  may-below : (r : Rule) (slots : List (Option Rule)) → May-rule (rename-slots table slots) r → (s : Rule) × May-rule slots s × (rule-key (rename-rule table s) ≡ rule-key r)
+  -- the rule s in the mode of r
+  abbrev in-mode-of : Rule → Rule → Rule
+  in-mode-of r s = record { mode = r .mode; state = s .state; top = s .top; event = s .event; next = s .next; upper = s .upper; lower = s .lower }
+
+  key-replaced : (r s : Rule) → rule-key (rename-rule table s) ≡ rule-key r → Event-replaced table (in-mode-of r s) r
+  key-replaced r s e = record {
+    mode = refl;
+    state = at 0;
+    top = at 1;
+    event = at 2;
+    next = at 3;
+    upper = at 4;
+    lower = at 5;
+  } where
+    at : (i : ℕ) → getD (rule-key r) i 0 ≡ getD (rule-key (rename-rule table s)) i 0
+    at i = ap (λ (l : List ℕ). getD l i 0) (sym e)
+
+  replaced-key : (r s : Rule) → Event-replaced table s r → rule-key (rename-rule table s) ≡ rule-key r
+  replaced-key r s e =
+      let state = e .state in
+      let top = e .top in
+      let event = e .event in
+      let next = e .next in
+      let upper = e .upper in
+      let lower = e .lower in
+      cc
+
+  slot-replaced : (s : Option Rule) → Slot-replaced table s (rename-slot table s)
+  slot-replaced None = tt
+  slot-replaced (Some s) = record { mode = refl; state = refl; top = refl; event = refl; next = refl; upper = refl; lower = refl }
+
+  slots-replaced : (slots : List (Option Rule)) (i : ℕ) → Slot-replaced table (getD slots i None) (getD (rename-slots table slots) i None)
+  slots-replaced slots i =
+      subst (λ (s : Option Rule). Slot-replaced table (getD slots i None) s) (slot-mapped (rename-slot table) refl slots i (getD slots i None) refl) (slot-replaced (getD slots i None))
+
+  may-below : (r : Rule) (slots : List (Option Rule)) → May-rule (rename-slots table slots) r → (s : Rule) × May-rule slots s × Event-replaced table s r
   may-below r [] h = absurd h
   may-below r (None ∷ ss) (inl h) = absurd h
-  may-below r (Some s ∷ ss) (inl h) = (s, inl refl, h)
+  may-below r (Some s ∷ ss) (inl h) = (in-mode-of r s, inl refl, key-replaced r s h)
   may-below r (s ∷ ss) (inr h) = let p = may-below r ss h in (p .0, inr (p .1), p .2)
 
-  must-below : (r : Rule) (slots : List (Option Rule)) → Must-rule (rename-slots table slots) r → (s : Rule) × Must-rule slots s × (rule-key (rename-rule table s) ≡ rule-key r)
+  must-below : (r : Rule) (slots : List (Option Rule)) → Must-rule (rename-slots table slots) r → (s : Rule) × Must-rule slots s × Event-replaced table s r
   must-below r [] h = absurd h
   must-below r (None ∷ ss) (inl h) = absurd h
-  must-below r (Some s ∷ ss) (inl h) = (s, inl (h .0, refl), h .1)
+  must-below r (Some s ∷ ss) (inl h) = (in-mode-of r s, inl (h .0, refl), key-replaced r s (h .1))
   must-below r (s ∷ ss) (inr h) = let p = must-below r ss h in (p .0, inr (p .1), p .2)
 
   allows-renamed : (r s : Rule) → rule-key (rename-rule table s) ≡ rule-key r → (u : Option Rule) → Allows s u → Allows r (rename-slot table u)
@@ -149,8 +185,9 @@ module _ (table : EventTable) where
 
   pub rename-means : (slots : List (Option Rule)) → Renamed table slots (rename-slots table slots)
   rename-means slots = record {
-    may = λ r. (may-below r slots, λ h. some-above (rename-slot table) (Allows r) (Allows (h .0)) (allows-renamed r (h .0) (h .2)) slots (h .1));
-    must = λ r. (must-below r slots, λ h. some-above (rename-slot table) (Demands r) (Demands (h .0)) (demands-renamed r (h .0) (h .2)) slots (h .1));
+    slot = slots-replaced slots;
+    may = λ r. (may-below r slots, λ h. some-above (rename-slot table) (Allows r) (Allows (h .0)) (allows-renamed r (h .0) (replaced-key r (h .0) (h .2))) slots (h .1));
+    must = λ r. (must-below r slots, λ h. some-above (rename-slot table) (Demands r) (Demands (h .0)) (demands-renamed r (h .0) (replaced-key r (h .0) (h .2))) slots (h .1));
   }
 
 -- the open profile, over the events from a on
@@ -192,11 +229,34 @@ module _ (events : List Bool) (r : Rule) where
   none-must a (suc n) (inl h) = not-demanded a h
   none-must a (suc n) (inr h) = none-must (a + 1) n h
 
+-- a rule is free just when it has the key of the rule of its event, which is in the set
+key-free : (events : List Bool) (r : Rule) (e : ℕ) → e < 12 → Told events r e → Free events r
+key-free events r e h t = record {
+  there = subst (λ (v : ℕ). v < 12) (at 2) h;
+  event = ap (λ (v : ℕ). getD events v false) (sym (at 2)) ∙ t .0;
+  state = sym (at 0);
+  top = sym (at 1);
+  next = sym (at 3);
+  upper = sym (at 4);
+  lower = sym (at 5);
+} where
+  at : (i : ℕ) → getD (rule-key (free-rule e)) i 0 ≡ getD (rule-key r) i 0
+  at i = ap (λ (l : List ℕ). getD l i 0) (t .1)
+
+free-key : (events : List Bool) (r : Rule) → Free events r → rule-key (free-rule (r .event)) ≡ rule-key r
+free-key events r f =
+    let state = f .state in
+    let top = f .top in
+    let next = f .next in
+    let upper = f .upper in
+    let lower = f .lower in
+    cc
+
 pub open-means : (events : List Bool) → Opened events (open-slots events)
 open-means events = record {
   may = λ r. (
-    λ h. let p = may-told events r 0 12 h in let m = p .1 in (p .0, omega arith, p .2 .0, p .2 .1),
-    λ p. told-may events r 0 12 (p .0) (omega arith) (let m = p .1 in omega arith) (p .2, p .3),
+    λ h. let p = may-told events r 0 12 h in key-free events r (p .0) (let m = p .1 in omega arith) (p .2),
+    λ f. told-may events r 0 12 (r .event) (omega arith) (let m = f .there in omega arith) (f .event, free-key events r f),
   );
   must = λ r. none-must events r 0 12;
 }

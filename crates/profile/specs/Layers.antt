@@ -1,4 +1,5 @@
 -- What each layer makes of a slot of the profile below, and what that makes of its may rules and its must rules.
+use Prim.Native.Nat.{ℕ}
 use mathlib.Core.Path.{_≡_}
 use mathlib.Core.Bool.{Bool, false, cond}
 use mathlib.Core.List.{List, map}
@@ -9,7 +10,6 @@ use Rattle.profile.specs.declared.event_table.EventTable.{EventTable}
 use Rattle.profile.specs.declared.Mode.{Mode}
 use Rattle.profile.specs.declared.Mode.the-variants.{May, Must}
 use Rattle.profile.specs.declared.Rule.{Rule}
-use Rattle.profile.specs.Rules.{rule-key}
 use Rattle.profile.specs.Profiles.{May-rule, Must-rule, Just-when}
 
 -- bare: a may rule goes, a must rule stays
@@ -59,7 +59,25 @@ pub record Loosened (events : List Bool) (below above : List (Option Rule)) : Ty
   pub may : (r : Rule) → Just-when (May-rule above r) (May-rule below r)
   pub must : (r : Rule) → Just-when (Must-rule above r) (Must-rule below r × (getD events (r .event) false ≡ false))
 
--- Rename: the may rules are those below with the event replaced, and so are the must rules.
+-- a rule with its event replaced by what the table has for it, all else kept
+pub record Event-replaced (table : EventTable) (old new : Rule) : Type 0 where
+  pub mode : new .mode ≡ old .mode
+  pub state : new .state ≡ old .state
+  pub top : new .top ≡ old .top
+  pub event : new .event ≡ getD (table .events) (old .event) 0
+  pub next : new .next ≡ old .next
+  pub upper : new .upper ≡ old .upper
+  pub lower : new .lower ≡ old .lower
+
+-- the same of slots: an empty one stays empty, and no other one is empty
+abbrev pub Slot-replaced : EventTable → Option Rule → Option Rule → Type 0
+Slot-replaced table None None = Unit {0}
+Slot-replaced table None (Some new) = ⊥
+Slot-replaced table (Some old) None = ⊥
+Slot-replaced table (Some old) (Some new) = Event-replaced table old new
+
+-- Rename: the may rules are those below with the event replaced, and so are the must rules, slot by slot.
 pub record Renamed (table : EventTable) (below above : List (Option Rule)) : Type 0 where
-  pub may : (r : Rule) → Just-when (May-rule above r) ((s : Rule) × May-rule below s × (rule-key (rename-rule table s) ≡ rule-key r))
-  pub must : (r : Rule) → Just-when (Must-rule above r) ((s : Rule) × Must-rule below s × (rule-key (rename-rule table s) ≡ rule-key r))
+  pub slot : (i : ℕ) → Slot-replaced table (getD below i None) (getD above i None)
+  pub may : (r : Rule) → Just-when (May-rule above r) ((s : Rule) × May-rule below s × Event-replaced table s r)
+  pub must : (r : Rule) → Just-when (Must-rule above r) ((s : Rule) × Must-rule below s × Event-replaced table s r)

@@ -10,7 +10,6 @@ use Rattle.std.specs.declared.option.Option.{Option}
 use Rattle.std.specs.declared.option.Option.the-variants.{Some, None}
 use Rattle.profile.specs.declared.Mode.the-variants.{May}
 use Rattle.profile.specs.declared.Rule.{Rule}
-use Rattle.profile.specs.Rules.{rule-key}
 use Rattle.profile.specs.Profiles.{May-rule, Must-rule, Just-when}
 
 -- an event may happen in state 0 on symbol 0 and leads back there
@@ -26,7 +25,17 @@ open-slots events = map (open-slot events) (counting 0 12)
 abbrev pub open-start : ℕ × ℕ
 open-start = (0, 0)
 
+-- a rule for an event in the set, with all else 0, the mode aside
+pub record Free (events : List Bool) (r : Rule) : Type 0 where
+  pub there : r .event < 12
+  pub event : getD events (r .event) false ≡ true
+  pub state : r .state ≡ 0
+  pub top : r .top ≡ 0
+  pub next : r .next ≡ 0
+  pub upper : r .upper ≡ 0
+  pub lower : r .lower ≡ 0
+
 -- What it comes to: the may rules are those of the events in the set, and there are no must rules.
 pub record Opened (events : List Bool) (slots : List (Option Rule)) : Type 0 where
-  pub may : (r : Rule) → Just-when (May-rule slots r) ((e : ℕ) × (e < 12) × (getD events e false ≡ true) × (rule-key (free-rule e) ≡ rule-key r))
+  pub may : (r : Rule) → Just-when (May-rule slots r) (Free events r)
   pub must : (r : Rule) → Must-rule slots r → ⊥

@@ -2,11 +2,11 @@
 use crate::Bare;
 use crate::BareProfile;
 use crate::EventTable;
-use crate::EventsProfile;
 use crate::Loosen;
 use crate::LoosenProfile;
 use crate::Mode;
 use crate::OpenProfile;
+use crate::OpenProfileProfile;
 use crate::Profile;
 use crate::Rename;
 use crate::RenameProfile;

@@ -64,7 +64,7 @@ fn free_slot(events: &[bool], i: usize) -> Option<Rule>
     }
 }
 
-pub impl Profile for OpenProfile as EventsProfile {
+pub impl Profile for OpenProfile as OpenProfileProfile {
     ghost rules = { λ p. open-slots (p .events) };
 
     ghost origin = { λ _. open-start };
