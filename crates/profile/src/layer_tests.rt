@@ -122,7 +122,9 @@ fn bare_over_loosen_over_rename() -> Result<(), Fail> {
 #[test]
 fn rename_over_bare_over_loosen() -> Result<(), Fail> {
     let pile = Rename::new(swaps()?, Bare::new(Loosen::new(only(4), table()?)));
-    shows(&pile, &[None, None, Some(rule(Mode::Must, 4))], (1, 2))
+    shows(&pile, &[None, None, Some(rule(Mode::Must, 4))], (1, 2))?;
+    let over_open = Rename::new(swaps()?, Bare::new(Loosen::new(only(4), open())));
+    shows(&over_open, &[None; 12], (0, 0))
 }
 
 // Bare below loosen keeps what loosen then lets go of.
@@ -133,6 +135,11 @@ fn loosen_over_rename_over_bare() -> Result<(), Fail> {
         &pile,
         &[None, Some(rule(Mode::Must, 5)), Some(rule(Mode::May, 4))],
         (1, 2),
+    )?;
+    shows(
+        &Loosen::new(only(4), Rename::new(swaps()?, Bare::new(open()))),
+        &[None; 12],
+        (0, 0),
     )?;
     let over_open = Loosen::new(only(0), Rename::new(swaps()?, open()));
     check_eq(over_open.slot(1), Some(rule(Mode::May, 0)))?;
