@@ -1,4 +1,6 @@
 // The book: attack rows in memory that the caller lends, and the numbers that say which of them it holds.
+#![tactic(auto)]
+
 ghost use Rattle.std.specs.Prelude.{◌≡◌};
 ghost use Rattle.book.specs.Refusals.{refusal_number};
 

@@ -1,5 +1,7 @@
 // Tries lists of calls on a book of attack rows. It takes paths in threes: a station's profile, the manual's, and the
 // calls. Where there are none, it takes station.prf, manual.prf and calls.txt.
+#![tactic(auto)]
+
 mod judging;
 mod printing;
 mod reading;

@@ -1,5 +1,7 @@
 // The game of modal refinement between a station's profile and the manual's, and the attack rows that decide it:
 // the plain types that rows are made of.
+#![tactic(auto)]
+
 ghost use Rattle.std.specs.Prelude.{◌≡◌, min, Decides};
 ghost use Rattle.game.specs.Members.{top_of, below_top, member_numbers, member_le, members_of, row_of, blank_row};
 ghost use Rattle.std.specs.Cmp.Rules.{comparing};

@@ -1,4 +1,6 @@
 // Judges a profile text: prints its reading, slot by slot, or its fault.
+#![tactic(auto)]
+
 use anyhow::anyhow;
 use std::env;
 use std::fs::File;

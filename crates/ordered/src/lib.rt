@@ -1,5 +1,7 @@
 // Ordered insertion that refuses a double, written and proved once for every element kind that has a key
 // with a total order. It works in places that the caller lends and allocates nothing.
+#![tactic(auto)]
+
 ghost use Rattle.std.specs.Prelude.{◌≡◌, ◌+◌, ◌<◌, ◌≤◌, Bool, true, false, ◌++◌, length, take, drop, Ok, Err};
 ghost use Rattle.ordered.specs.Lex.{lex_le};
 ghost use Rattle.std.specs.List.{insert};

@@ -1,5 +1,7 @@
 // Builds piles of layers over a table that a text spells and over an open profile, and prints every slot and the start
 // of each. Whatever stands below, a pile is asked the same three questions.
+#![tactic(auto)]
+
 use anyhow::anyhow;
 use profile::{Bare, EventTable, Loosen, OpenProfile, Profile, Rename, Rule, Table};
 use std::env;

@@ -1,4 +1,6 @@
 // Profiles: what a logger may do and what it must do, as rules of a visibly pushdown system.
+#![tactic(auto)]
+
 ghost use Rattle.std.specs.Prelude.{◌≡◌, Decides};
 ghost use Rattle.ordered.specs.Lex.{lex_le};
 ghost use Rattle.profile.specs.Kinds.{event_kind, symbols_used};

@@ -1,4 +1,6 @@
 // What is told of profile texts, good and damaged: for each text here the report that the rules of the format ask for.
+#![tactic(auto)]
+
 #[cfg(test)]
 mod bytes;
 #[cfg(test)]
