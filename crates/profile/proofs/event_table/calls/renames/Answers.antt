@@ -3,9 +3,9 @@ use Rattle.std.proofs.lemmas.Bool.{both_ways}
 use Rattle.profile.specs.Renames.{table_taken, table_kept, table_broken, refused_kind}
 use Rattle.profile.proofs.event_table.calls.renames.Goals as goal
 
-pub returns-then-not-of-one-kind : goal.returns-then-not-of-one-kind
-returns-then-not-of-one-kind c =
-    let off = sym c.if-not-of-one-kind.ensures in
+pub returns-then-not-of_one_kind : goal.returns-then-not-of_one_kind
+returns-then-not-of_one_kind c =
+    let off = sym c.if-not-of_one_kind.ensures in
     let h = c.loop-e-test.true in
     record {
       value = sym (table_broken c.args.events.now c.loop-e.e h off);
