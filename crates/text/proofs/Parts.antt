@@ -8,7 +8,7 @@ use Rattle.text.specs.declared.words.Due.{Due}
 use Rattle.text.specs.declared.words.Word.{Word}
 use Rattle.text.specs.declared.reader.Reader.{Reader}
 use Rattle.text.specs.Faults.{place_at, word_fault}
-use Rattle.text.specs.Words.{is_blank, Rest, rest_of, Step, Spelled, spelled, seen, run_end, cut, cut_at, word_at, found, next_from, next_word, PartOf, WordIsPart}
+use Rattle.text.specs.Words.{is_blank, Rest, rest_of, Step, Spelled, spelled, seen, run_end, cut, cut_at, word_at, found, next_from, next_word, left_by, left_after, PartOf, BlanksGone, WordIsPart}
 use Rattle.text.proofs.Spacing.{impossible, Run, run_of}
 
 abbrev left_at : List ℕ → ℕ → Rest
@@ -63,3 +63,9 @@ pub word_is_part : (k : Due) (r : Result (Option Word) WordFault) (s : Rest) (no
 word_is_part k (Ok None) s now e = tt
 word_is_part k (Ok (Some w)) s now e = part_of_text k s.bytes s.at _ (sym e)
 word_is_part k (Err f) s now e = tt
+
+-- what the reader has left, by what it was to read
+pub left_is : (k : Due) (r : Result (Option Word) WordFault) (s : Rest) (now : Reader) → seen r now ≡ next_word k s → BlanksGone r s now → rest_of now ≡ left_after k s
+left_is k (Ok None) s now e h = h ∙ ap (λ (x : Result (Option (Step Spelled)) WordFault). left_by x s) e
+left_is k (Ok (Some w)) s now e h = ap (λ (x : Result (Option (Step Spelled)) WordFault). left_by x s) e
+left_is k (Err f) s now e h = h ∙ ap (λ (x : Result (Option (Step Spelled)) WordFault). left_by x s) e

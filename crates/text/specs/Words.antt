@@ -82,6 +82,15 @@ skipped_from (b ∷ bs) p = cond (is_blank b) (skipped_from bs (p + 1)) (record 
 abbrev pub skipped : Rest → Rest
 skipped s = skipped_from s.bytes s.at
 
+-- what is left after that: all that follows the word, or all but the blanks where no word was taken
+abbrev pub left_by : Result (Option (Step Spelled)) WordFault → Rest → Rest
+left_by (Ok None) s = skipped s
+left_by (Ok (Some w)) s = w.rest
+left_by (Err f) s = skipped s
+
+abbrev pub left_after : Due → Rest → Rest
+left_after k s = left_by (next_word k s) s
+
 -- A word is the part of the text that begins at its place, and what is left begins right after it.
 pub record PartOf (s : Rest) (w : Step Spelled) : Type 0 where
   pub from : s.at ≤ w.value.place.offset

@@ -93,7 +93,7 @@ pub struct Fault {
 
 impl Fault {
     // A fault of the sections.
-    pub(crate) fn section(cause: SectionCause, place: Place) -> Fault
+    pub fn section(cause: SectionCause, place: Place) -> Fault
         ensures { result ≡ record { cause = InSections cause; place = place } }
     {
         Fault {
@@ -103,7 +103,7 @@ impl Fault {
     }
 
     // A fault of the profile.
-    pub(crate) fn profile(cause: ProfileCause, place: Place) -> Fault
+    pub fn profile(cause: ProfileCause, place: Place) -> Fault
         ensures { result ≡ record { cause = InProfile cause; place = place } }
     {
         Fault {

@@ -7,6 +7,6 @@ mod names;
 pub mod profiles;
 pub mod reader;
 pub mod report;
-mod sections;
+pub mod sections;
 pub mod words;
 pub mod write;

@@ -127,6 +127,19 @@ fn put_refusal(out: &mut [u8], at: usize, fault: &Fault) -> usize
     put_byte(out, at, 10)
 }
 
+// Writes the line of a refusal, whichever layer found the fault. Tells how many bytes that is.
+pub fn write_fault(fault: &Fault, out: &mut [u8]) -> Result<usize, TooFewBytes>
+    ensures answer { result ≡ write_answer (refusal_line fault.now) out.old }
+    ensures after { out.new ≡ write_after (refusal_line fault.now) out.old }
+{
+    let mut nothing: [u8; 0] = [];
+    let needed = put_refusal(&mut nothing, 0, fault);
+    if needed > out.len() {
+        return Err(TooFewBytes);
+    }
+    Ok(put_refusal(out, 0, fault))
+}
+
 // The report of a reading, as much of it as fits; the answer is its whole length.
 fn put_report(out: &mut [u8], told: &Result<(), Fault>, table: &Table) -> usize
     ensures wrote { Wrote out.old 0 (report_of (outcome told.now table.now)) result out.new }

@@ -1,7 +1,8 @@
 // Sections (layer 2): keywords and numbers where they are due, and the end of the text where no word is.
 ghost use Rattle.std.specs.Prelude.{◌≡◌, ◌≤◌, IfOk};
 ghost use Rattle.std.specs.Str.{bytes_eq};
-ghost use Rattle.text.specs.Words.{text_end, rest_of};
+ghost use Rattle.text.specs.declared.words.Due.TheVariants.{Keyword, Number};
+ghost use Rattle.text.specs.Words.{text_end, rest_of, left_after};
 ghost use Rattle.text.specs.Sections.{is_digit, plain_number, stepped, taken, word_due, read_keyword, read_number, read_end};
 
 use crate::fault::{Fault, SectionCause};
@@ -9,7 +10,7 @@ use crate::reader::Reader;
 use crate::words::{Due, Word};
 
 // Whether two words are spelled alike.
-pub(crate) fn alike(a: &[u8], b: &[u8]) -> bool
+pub fn alike(a: &[u8], b: &[u8]) -> bool
     ensures { result ≡ bytes_eq a.now b.now }
 {
     a == b
@@ -22,7 +23,7 @@ fn is_digit(b: u8) -> bool
 }
 
 // The number that one to four digits spell, with no 0 in front of another.
-pub(crate) fn plain_number(bytes: &[u8]) -> Option<u16>
+pub fn plain_number(bytes: &[u8]) -> Option<u16>
     ensures { result ≡ plain_number bytes.now }
 {
     if bytes.len() == 0 || bytes.len() > 4 {
@@ -44,8 +45,9 @@ pub(crate) fn plain_number(bytes: &[u8]) -> Option<u16>
 }
 
 // The next word, which has to be there.
-pub(crate) fn word_due<'a>(reader: &mut Reader<'a>, due: Due) -> Result<Word<'a>, Fault>
+pub fn word_due<'a>(reader: &mut Reader<'a>, due: Due) -> Result<Word<'a>, Fault>
     ensures value { taken result reader.new ≡ word_due due (rest_of reader.old) }
+    ensures after { rest_of reader.new ≡ left_after due (rest_of reader.old) }
     ensures end { text_end (rest_of reader.new) ≡ text_end (rest_of reader.old) }
 {
     let end = reader.end();
@@ -56,8 +58,9 @@ pub(crate) fn word_due<'a>(reader: &mut Reader<'a>, due: Due) -> Result<Word<'a>
 }
 
 // Takes the keyword that is due.
-pub(crate) fn keyword(reader: &mut Reader<'_>, wanted: &[u8]) -> Result<(), Fault>
+pub fn keyword(reader: &mut Reader<'_>, wanted: &[u8]) -> Result<(), Fault>
     ensures value { stepped result reader.new ≡ read_keyword wanted.now (rest_of reader.old) }
+    ensures after { rest_of reader.new ≡ left_after Keyword (rest_of reader.old) }
     ensures end { text_end (rest_of reader.new) ≡ text_end (rest_of reader.old) }
 {
     let word = word_due(reader, Due::Keyword)?;
@@ -68,9 +71,10 @@ pub(crate) fn keyword(reader: &mut Reader<'_>, wanted: &[u8]) -> Result<(), Faul
 }
 
 // Takes a plain number from `lo` to `hi`.
-pub(crate) fn number(reader: &mut Reader<'_>, lo: u16, hi: u16) -> Result<u16, Fault>
+pub fn number(reader: &mut Reader<'_>, lo: u16, hi: u16) -> Result<u16, Fault>
     ensures value { stepped result reader.new ≡ read_number lo hi (rest_of reader.old) }
     ensures range { IfOk result (λ n. (lo ≤ n) × (n ≤ hi)) }
+    ensures after { rest_of reader.new ≡ left_after Number (rest_of reader.old) }
     ensures end { text_end (rest_of reader.new) ≡ text_end (rest_of reader.old) }
 {
     let word = word_due(reader, Due::Number)?;
@@ -81,8 +85,10 @@ pub(crate) fn number(reader: &mut Reader<'_>, lo: u16, hi: u16) -> Result<u16, F
 }
 
 // Sees that no word is left.
-pub(crate) fn finish(reader: &mut Reader<'_>) -> Result<(), Fault>
-    ensures { result ≡ read_end (rest_of reader.old) }
+pub fn finish(reader: &mut Reader<'_>) -> Result<(), Fault>
+    ensures value { result ≡ read_end (rest_of reader.old) }
+    ensures after { rest_of reader.new ≡ left_after Keyword (rest_of reader.old) }
+    ensures end { text_end (rest_of reader.new) ≡ text_end (rest_of reader.old) }
 {
     match reader.next(Due::Keyword)? {
         None => Ok(()),

@@ -1,7 +1,7 @@
 // Words (layer 1): runs of visible bytes between blanks, each a part of the text that was handed over.
 ghost use Rattle.std.specs.Prelude.{◌≡◌, ◌+◌, ◌^◌, ◌<◌, ◌≤◌, length, IfOk};
 ghost use Rattle.text.specs.Faults.{place_at};
-ghost use Rattle.text.specs.Words.{is_blank, is_visible, run_end, word_at, next_word, begun, length_judged, rest_of, spelled, seen, parted, text_end, BlanksGone, WordIsPart};
+ghost use Rattle.text.specs.Words.{is_blank, is_visible, run_end, word_at, next_word, left_after, begun, length_judged, rest_of, spelled, seen, parted, text_end, BlanksGone, WordIsPart};
 
 use crate::fault::{Place, WordCause, WordFault};
 use crate::reader::Reader;
@@ -162,6 +162,7 @@ impl<'a> Reader<'a> {
         ensures value { seen result self.new ≡ next_word due (rest_of self.old) }
         ensures part { WordIsPart result (rest_of self.old) self.new }
         ensures left { BlanksGone result (rest_of self.old) self.new }
+        ensures after { rest_of self.new ≡ left_after due (rest_of self.old) }
         ensures end { text_end (rest_of self.new) ≡ text_end (rest_of self.old) }
     {
         self.advance(due)

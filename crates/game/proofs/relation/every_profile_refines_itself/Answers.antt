@@ -8,4 +8,4 @@ returns c = λ kinds slots.
       may = λ p q e event p' t. (p', (t.0, t.1, t.2, subst (λ (x : Configuration). Leads kinds t.0 x p') e t.3), refl);
       must = λ p q e event q' t. (q', (t.0, t.1, t.2, subst (λ (x : Configuration). Leads kinds t.0 x q') (sym e) t.3, t.4), refl);
     } in
-    (same, λ state symbol. c.any-refinement-gives-a-yes-or-no-one.ensures kinds slots slots _ same refl)
+    (same, λ state symbol. c.any_refinement_gives_a_yes_or_no_one.ensures kinds slots slots _ same refl)

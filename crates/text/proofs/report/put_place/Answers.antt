@@ -4,6 +4,6 @@ use Rattle.text.proofs.report.put_place.Goals as goal
 
 pub returns : goal.returns
 returns c = record {
-  wrote = wrote_then c.put-at.ensures c.put-value.ensures.wrote;
-  bound = omega (arith, c.put-at.ensures.ends, c.put-value.ensures.bound);
+  wrote = wrote_then c.put-at.ensures c.put_value.ensures.wrote;
+  bound = omega (arith, c.put-at.ensures.ends, c.put_value.ensures.bound);
 }

@@ -8,27 +8,27 @@ returns c = record {
   wrote =
       wrote_then (wrote_then (wrote_then (wrote_then (wrote_then (wrote_then (wrote_then (wrote_then (wrote_then
       c.put-at.ensures
-      c.put-value-at.ensures.wrote)
-      (wrote_as (ap shown_word c.mode_word.ensures.word) c.put-word-at.ensures.wrote))
-      c.put-value-at-2.ensures.wrote)
-      c.put-value-at-3.ensures.wrote)
-      (wrote_as (ap shown_word c.event_name.ensures.word) c.put-word-at-2.ensures.wrote))
-      c.put-value-at-4.ensures.wrote)
-      (wrote_as (ap (λ n. shown_symbol_if (leb 1 n) c.args.rule.now.upper) c.used-by-used.ensures) c.put-symbol-if-at.ensures.wrote))
-      (wrote_as (ap (λ n. shown_symbol_if (leb 2 n) c.args.rule.now.lower) c.used-by-used.ensures) c.put-symbol-if-at-2.ensures.wrote))
-      c.put-byte.ensures;
+      c.put_value-at.ensures.wrote)
+      (wrote_as (ap shown_word c.mode_word.ensures.word) c.put_word-at.ensures.wrote))
+      c.put_value-at-2.ensures.wrote)
+      c.put_value-at-3.ensures.wrote)
+      (wrote_as (ap shown_word c.event_name.ensures.word) c.put_word-at-2.ensures.wrote))
+      c.put_value-at-4.ensures.wrote)
+      (wrote_as (ap (λ n. shown_symbol_if (leb 1 n) c.args.rule.now.upper) c.used_by-used.ensures) c.put_symbol_if-at.ensures.wrote))
+      (wrote_as (ap (λ n. shown_symbol_if (leb 2 n) c.args.rule.now.lower) c.used_by-used.ensures) c.put_symbol_if-at-2.ensures.wrote))
+      c.put_byte.ensures;
   bound =
       omega (
         arith,
         c.put-at.ensures.ends,
-        c.put-value-at.ensures.bound,
-        c.put-word-at.ensures.bound,
-        c.put-value-at-2.ensures.bound,
-        c.put-value-at-3.ensures.bound,
-        c.put-word-at-2.ensures.bound,
-        c.put-value-at-4.ensures.bound,
-        c.put-symbol-if-at.ensures.bound,
-        c.put-symbol-if-at-2.ensures.bound,
-        c.put-byte.ensures.ends,
+        c.put_value-at.ensures.bound,
+        c.put_word-at.ensures.bound,
+        c.put_value-at-2.ensures.bound,
+        c.put_value-at-3.ensures.bound,
+        c.put_word-at-2.ensures.bound,
+        c.put_value-at-4.ensures.bound,
+        c.put_symbol_if-at.ensures.bound,
+        c.put_symbol_if-at-2.ensures.bound,
+        c.put_byte.ensures.ends,
       );
 }

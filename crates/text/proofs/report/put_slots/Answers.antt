@@ -8,8 +8,8 @@ loop-i-init c = (so_far_none _ _ _, c.requires.0)
 
 pub loop-i-preserved : goal.loop-i-preserved
 loop-i-preserved c = (
-  so_far_step (slot_next c.args.rules.now c.loop-i.i _ c.loop-i-test.true) c.loop-i.invariant.0 c.put-slot-end.ensures.wrote,
-  omega (arith, c.loop-i.invariant.1, c.put-slot-end.ensures.bound),
+  so_far_step (slot_next c.args.rules.now c.loop-i.i _ c.loop-i-test.true) c.loop-i.invariant.0 c.put_slot-end.ensures.wrote,
+  omega (arith, c.loop-i.invariant.1, c.put_slot-end.ensures.bound),
 )
 
 pub returns : goal.returns

@@ -4,6 +4,6 @@ use Rattle.text.proofs.report.put_word.Goals as goal
 
 pub returns : goal.returns
 returns c = record {
-  wrote = wrote_then c.put-byte-at.ensures c.put.ensures;
-  bound = omega (arith, c.put-byte-at.ensures.ends, c.put.ensures.ends);
+  wrote = wrote_then c.put_byte-at.ensures c.put.ensures;
+  bound = omega (arith, c.put_byte-at.ensures.ends, c.put.ensures.ends);
 }
