@@ -2,10 +2,12 @@
 // the plain types that rows are made of.
 #![tactic(auto)]
 
-ghost use Rattle.std.specs.Prelude.{◌≡◌, min, Decides};
+ghost use Rattle.std.specs.Prelude.{◌≡◌, ◌&&◌, min, Decides};
+ghost use Rattle.std.specs.Ordering.{eq_of_both, on};
 ghost use Rattle.game.specs.Members.{top_of, below_top, member_numbers, member_le, members_of, row_of, blank_row};
 ghost use Rattle.std.specs.Cmp.Rules.{comparing};
 ghost use Rattle.std.proofs.Common.{rules};
+ghost use Rattle.game.specs.Sameness.{same_member, same_member_laws};
 ghost use Rattle.game.specs.Order.{member_reflexive, member_antisymmetric, member_transitive, member_total};
 
 use ordered::Keyed;
@@ -30,11 +32,14 @@ pub struct Head {
 }
 
 impl PartialEq for Head {
-    ghost equals = { λ a b r. Decides r (a ≡ b) };
+    ghost eq = { eq_of_both (on (λ h. h.states) ⟦<Pair as PartialEq>⟧.eq) (on (λ h. h.symbols) ⟦<Pair as PartialEq>⟧.eq) };
 
     ghost laws = { Prim.search (comparing, rules) };
 
-    fn eq(&self, other: &Head) -> bool {
+    fn eq(&self, other: &Head) -> bool
+        ensures computes { result ≡ (⟦<Pair as PartialEq>⟧.eq self.now.states other.now.states && ⟦<Pair as PartialEq>⟧.eq self.now.symbols other.now.symbols) }
+        ensures decides { Decides result (self.now ≡ other.now) }
+    {
         self.states == other.states && self.symbols == other.symbols
     }
 }
@@ -68,11 +73,14 @@ pub struct Member {
 }
 
 impl PartialEq for Member {
-    ghost equals = { λ a b r. Decides r (a ≡ b) };
+    ghost eq = { same_member };
 
-    ghost laws = { Prim.search (comparing, rules) };
+    ghost laws = { same_member_laws };
 
-    fn eq(&self, other: &Member) -> bool {
+    fn eq(&self, other: &Member) -> bool
+        ensures computes { result ≡ same_member self.now other.now }
+        ensures decides { Decides result (self.now ≡ other.now) }
+    {
         self.symbols == other.symbols && self.states == other.states
     }
 }

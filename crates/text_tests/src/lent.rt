@@ -14,10 +14,13 @@ fn accepted(rt: HostRuntime) {
     assert_eq!(rt; short, [7u8; 18]);
     let mut enough = [7u8; 19];
     assert_eq!(rt; lint(good(), &mut enough), Ok(19));
-    assert_eq!(rt; &enough[0..19], b"accepted\nstart 0 0\n");
+    assert_eq!(rt; &enough[0..19], b"accepted\nstart 0 0\n".as_slice());
     let mut more = [7u8; 24];
     assert_eq!(rt; lint(good(), &mut more), Ok(19));
-    assert_eq!(rt; &more[0..24], b"accepted\nstart 0 0\n\x07\x07\x07\x07\x07");
+    assert_eq!(rt;
+        &more[0..24],
+        b"accepted\nstart 0 0\n\x07\x07\x07\x07\x07".as_slice()
+    );
 }
 
 // The report of an empty text has 27 bytes.
@@ -28,10 +31,13 @@ fn refused(rt: HostRuntime) {
     assert_eq!(rt; short, [7u8; 26]);
     let mut enough = [7u8; 27];
     assert_eq!(rt; lint(b"", &mut enough), Ok(27));
-    assert_eq!(rt; &enough[0..27], b"refusal 13 layer 2 place 0\n");
+    assert_eq!(rt; &enough[0..27], b"refusal 13 layer 2 place 0\n".as_slice());
     let mut more = [7u8; 29];
     assert_eq!(rt; lint(b"", &mut more), Ok(27));
-    assert_eq!(rt; &more[0..29], b"refusal 13 layer 2 place 0\n\x07\x07");
+    assert_eq!(rt;
+        &more[0..29],
+        b"refusal 13 layer 2 place 0\n\x07\x07".as_slice()
+    );
 }
 
 // No bytes, or one, are too few for any report.
