@@ -1,7 +1,7 @@
 -- The relation that a list of rows gives, computed on the two stacks: two empty stacks are related; stacks of
 -- unequal height are not; otherwise the head must be called for, and of every row of that head without pairs some
 -- member must be related on the stacks below.
-use Rattle.std.proofs.Common.{◌≡◌, ℕ, Bool, true, false, not, ◌&&◌, ◌||◌, ◌⊎◌, List, [], ◌∷◌, ⊎_elim}
+use Rattle.std.proofs.Common.{◌≡◌, ℕ, Bool, true, false, not, ◌&&◌, ◌||◌, List, [], ◌∷◌, ⊎_elim}
 use Rattle.std.proofs.lemmas.Bool.{and_parts, and_from, and_cases, or_cases, or_parts, not-false, not_from_true, both_ways}
 use Rattle.ordered.specs.Laws.{In}
 use Rattle.game.specs.declared.Head.{Head}

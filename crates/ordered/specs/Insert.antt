@@ -1,6 +1,6 @@
 -- Ordered insertion that refuses a double, on lists.
 -- `le x y` says that the key of x is at most the key of y.
-use Rattle.std.specs.Prelude.{ℕ, suc, ◌+◌, Bool, true, false, cond, List, [], ◌∷◌, ◌++◌, length, take, drop, Ok, Err, Result, nat_lt}
+use Rattle.std.specs.Prelude.{ℕ, suc, ◌+◌, Bool, false, cond, List, [], ◌∷◌, ◌++◌, length, take, drop, Ok, Err, Result, nat_lt}
 use Rattle.ordered.specs.declared.Unplaced.{Unplaced}
 use Rattle.ordered.specs.declared.Unplaced.TheVariants.{Double, Full}
 

@@ -1,18 +1,16 @@
 -- The words that are due, against the grammar: what was taken, and that what is spelled is taken.
-use Rattle.std.proofs.Common.{◌≡◌, ℕ, ◌+◌, ◌<◌, ◌≤◌, Bool, true, false, cond, ◌&&◌, leb, List, [], ◌∷◌, ◌++◌, length, Some, None, Ok, Err, decimal, Option, Result, sym, refl, ap, ◌∙◌, subst, arith}
+use Rattle.std.proofs.Common.{◌≡◌, ℕ, ◌<◌, ◌≤◌, Bool, true, false, cond, leb, List, [], ◌∷◌, Some, None, Ok, Err, decimal, Option, Result, sym, refl, ap, ◌∙◌, subst, arith}
 use Rattle.std.specs.Str.{bytes_eq}
 use Rattle.std.proofs.lemmas.Slice.Eq.{bytes_eq-Decides}
-use Rattle.std.proofs.lemmas.Bool.{cond-true, cond-false, and_parts, and_from, leb-true, le-leb}
+use Rattle.std.proofs.lemmas.Bool.{cond-true, and_parts, and_from, leb-true, le-leb}
 use Rattle.text.specs.declared.fault.Fault.{Fault}
 use Rattle.text.specs.declared.fault.WordFault.{WordFault}
-use Rattle.text.specs.declared.fault.SectionCause.TheVariants.{WordNotDue, NumberNotDue}
 use Rattle.text.specs.declared.words.Due.{Due}
 use Rattle.text.specs.declared.words.Due.TheVariants.{Keyword, Number}
-use Rattle.text.specs.Faults.{section_fault}
 use Rattle.text.specs.Words.{text_end, Rest, Step, Spelled, next_word}
 use Rattle.text.specs.Sections.{and_then, there, word_due, read_keyword, plain_number, in_range, read_number, nothing_more, read_end}
 use Rattle.text.specs.Grammar.{Spaced}
-use Rattle.text.proofs.Spacing.{impossible, Takes, takes_none, takes_then, takes_as, Next, next_of, none_of, word_of, end_of}
+use Rattle.text.proofs.Spacing.{impossible, Takes, takes_as, next_of, none_of, word_of, end_of}
 use Rattle.text.proofs.PlainNumbers.{number_reads_back, number_spelled_once}
 
 -- a reading that goes well goes well in each step

@@ -1,5 +1,5 @@
 -- Lists of rules against the grammar: the table holds just the listed rules, in ascending order.
-use Rattle.std.proofs.Common.{◌≡◌, ℕ, zero, suc, ◌<◌, ◌≤◌, Bool, true, false, cond, ◌⊎◌, List, [], ◌∷◌, ◌++◌, length, get_or, Ok, Err, Result, sym, refl, ap, ◌∙◌, subst, inl, inr, append_assoc, arith}
+use Rattle.std.proofs.Common.{◌≡◌, ℕ, zero, suc, ◌<◌, true, false, ◌⊎◌, List, [], ◌∷◌, ◌++◌, length, get_or, Ok, sym, refl, ap, ◌∙◌, subst, inl, inr, append_assoc, arith}
 use Rattle.std.proofs.lemmas.List.{append-nil}
 use Rattle.std.proofs.lemmas.Bool.{cond-false, cases_Bool}
 use Rattle.ordered.specs.Lex.{lex_le}
@@ -9,15 +9,13 @@ use Rattle.ordered.proofs.Lexes.{lex_reflexive, lex_antisymmetric, lex_transitiv
 use Rattle.ordered.proofs.Orders.{in_inserted, in_old_or_new, ascending_inserted, key_at_double, key_is_new}
 use Rattle.profile.specs.declared.Rule.{Rule}
 use Rattle.profile.specs.Rules.{rule_key, rule_le}
-use Rattle.text.specs.declared.fault.Place.{Place}
-use Rattle.text.specs.declared.fault.Fault.{Fault}
 use Rattle.text.specs.Words.{Rest, Step}
 use Rattle.text.specs.ProfileText.{event_names, read_rule, more_rules}
 use Rattle.text.specs.Grammar.{Spaced, rule_words, rules_words, NamesDiffer, EachNew, AllNamed}
-use Rattle.text.proofs.Spacing.{impossible, Takes, takes_none, takes_then, takes_as}
+use Rattle.text.proofs.Spacing.{Takes, takes_none, takes_then}
 use Rattle.text.proofs.Dues.{then_ok, then_is, ok_same}
 use Rattle.text.proofs.Naming.{cond_else}
-use Rattle.text.proofs.Ruling.{RuleTaken, rule_takes, RuleRead, rule_reads}
+use Rattle.text.proofs.Ruling.{rule_takes, rule_reads}
 
 -- elements and keys of lists
 module _ {X : Type 0} (x : X) where

@@ -1,19 +1,16 @@
 -- Names against the grammar: a name's number, and the sections of names.
-use Rattle.std.proofs.Common.{◌≡◌, ℕ, zero, suc, ◌+◌, ◌-◌, ◌<◌, ◌≤◌, Bool, true, false, cond, not, ◌&&◌, ◌⊎◌, List, [], ◌∷◌, ◌++◌, length, get_or, is_some, Some, None, Ok, Err, decimal, Option, Result, sym, refl, ap, ◌∙◌, subst, inl, inr, append_assoc, arith}
+use Rattle.std.proofs.Common.{◌≡◌, ℕ, zero, suc, ◌+◌, ◌-◌, ◌<◌, ◌≤◌, Bool, true, false, cond, not, ◌&&◌, List, [], ◌∷◌, ◌++◌, length, get_or, is_some, Some, None, Ok, Err, decimal, Option, Result, sym, refl, ap, ◌∙◌, subst, inl, inr, append_assoc, arith}
 use Rattle.std.specs.Str.{bytes_eq}
 use Rattle.std.proofs.lemmas.List.{append-nil}
 use Rattle.std.proofs.lemmas.Bool.{cond-true, cond-false, cases_Bool, both_ways, and_parts, not-true}
 use Rattle.ordered.specs.Laws.{HasKey}
-use Rattle.text.specs.declared.fault.Fault.{Fault}
-use Rattle.text.specs.declared.fault.ProfileCause.TheVariants.{NameTwice}
 use Rattle.text.specs.declared.words.Due.TheVariants.{Name}
-use Rattle.text.specs.Faults.{profile_fault}
 use Rattle.text.specs.Words.{Rest, Step, Spelled}
-use Rattle.text.specs.Sections.{and_then, word_due, read_keyword, read_number}
+use Rattle.text.specs.Sections.{word_due, read_keyword, read_number}
 use Rattle.text.specs.ProfileText.{event_names, index_from, index_of, more_names, read_names, known, read_index}
 use Rattle.text.specs.Grammar.{Spaced, names_section, name_of, EachNew, NamesDiffer}
 use Rattle.text.proofs.Spacing.{impossible, Takes, takes_none, takes_then, takes_as}
-use Rattle.text.proofs.Dues.{then_ok, then_is, ok_same, same_bytes, bytes_same, Reads, WordRead, word_reads, word_takes, keyword_takes, keyword_reads, NumberTaken, number_takes, number_reads}
+use Rattle.text.proofs.Dues.{then_ok, then_is, ok_same, same_bytes, bytes_same, Reads, word_reads, word_takes, keyword_takes, keyword_reads, number_takes, number_reads}
 
 -- keys of a list that is grown at its end
 module _ {X K : Type 0} (key : X → K) (k : K) where

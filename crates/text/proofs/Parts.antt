@@ -1,5 +1,5 @@
 -- A word is a part of the text that was handed over.
-use Rattle.std.proofs.Common.{◌≡◌, ℕ, suc, ◌+◌, ◌-◌, ◌≤◌, Bool, true, false, cond, leb, ◌⊎◌, List, [], ◌∷◌, length, take, drop, Some, None, Ok, Err, Option, Result, sym, refl, ap, ◌∙◌, subst, inl, inr, arith}
+use Rattle.std.proofs.Common.{◌≡◌, ℕ, suc, ◌+◌, ◌-◌, Bool, true, false, cond, leb, List, [], ◌∷◌, length, take, drop, Some, None, Ok, Err, Option, Result, sym, refl, ap, ◌∙◌, subst, inl, inr, arith}
 use Rattle.std.proofs.lemmas.List.{drop-drop}
 use Rattle.std.proofs.lemmas.Bool.{cond-true, cond-false, cases_Bool}
 use Rattle.text.specs.declared.fault.WordFault.{WordFault}
@@ -8,7 +8,7 @@ use Rattle.text.specs.declared.words.Due.{Due}
 use Rattle.text.specs.declared.words.Word.{Word}
 use Rattle.text.specs.declared.reader.Reader.{Reader}
 use Rattle.text.specs.Faults.{place_at, word_fault}
-use Rattle.text.specs.Words.{is_blank, Rest, rest_of, Step, Spelled, spelled, seen, run_end, cut, cut_at, word_at, found, next_from, next_word, left_by, left_after, PartOf, BlanksGone, WordIsPart}
+use Rattle.text.specs.Words.{is_blank, Rest, rest_of, Step, Spelled, seen, run_end, cut_at, found, next_from, next_word, left_by, left_after, PartOf, BlanksGone, WordIsPart}
 use Rattle.text.proofs.Spacing.{impossible, Run, run_of}
 
 abbrev left_at : List ℕ → ℕ → Rest

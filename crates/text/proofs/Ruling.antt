@@ -1,5 +1,5 @@
 -- Rules against the grammar.
-use Rattle.std.proofs.Common.{◌≡◌, ℕ, zero, suc, ◌<◌, ◌≤◌, Bool, true, false, cond, ltb, leb, ◌⊎◌, List, [], ◌∷◌, ◌++◌, length, Some, None, Ok, Err, Option, Result, sym, refl, ap, ◌∙◌, subst, inl, inr, append_assoc, arith}
+use Rattle.std.proofs.Common.{◌≡◌, ℕ, ◌<◌, Bool, true, false, leb, List, [], ◌∷◌, ◌++◌, length, Some, None, Ok, Option, Result, sym, refl, ap, ◌∙◌, subst, inl, inr, append_assoc, arith}
 use Rattle.std.specs.Str.{bytes_eq}
 use Rattle.std.proofs.lemmas.Bool.{cond-true, cond-false, cases_Bool, cases_lt, both_ways, le-ltb}
 use Rattle.profile.specs.declared.Mode.{Mode}
@@ -12,12 +12,12 @@ use Rattle.text.specs.declared.fault.Place.{Place}
 use Rattle.text.specs.declared.fault.Fault.{Fault}
 use Rattle.text.specs.declared.words.Due.TheVariants.{Keyword}
 use Rattle.text.specs.Words.{Rest, Step, Spelled}
-use Rattle.text.specs.Sections.{and_then, word_due}
+use Rattle.text.specs.Sections.{word_due}
 use Rattle.text.specs.ProfileText.{mode_word, event_names, read_index, read_mode, read_symbol_if, used_by, read_rule}
 use Rattle.text.specs.Grammar.{Spaced, name_of, symbols_listed, rule_words, NamesDiffer, SymbolsNamed, Named}
-use Rattle.text.proofs.Spacing.{impossible, Takes, takes_none, takes_then, takes_as}
+use Rattle.text.proofs.Spacing.{Takes, takes_none, takes_then, takes_as}
 use Rattle.text.proofs.Dues.{then_ok, then_is, cond_ok, ok_same, same_bytes, bytes_same, Reads, word_reads, word_takes}
-use Rattle.text.proofs.Naming.{IndexTaken, index_takes, index_reads, events_differ}
+use Rattle.text.proofs.Naming.{index_takes, index_reads, events_differ}
 use Rattle.text.proofs.RuleSteps.{kind_there}
 
 -- modes

@@ -1,11 +1,11 @@
 -- A profile text is accepted just where the grammar says what it says, and no text says two things.
 use Rattle.std.proofs.Common.{◌≡◌, ℕ, ◌<◌, ◌≤◌, Bool, true, false, cond, leb, List, [], ◌∷◌, ◌++◌, length, Ok, Err, codes, decimal, Result, sym, refl, ap, ◌∙◌, subst, arith}
 use Rattle.std.proofs.lemmas.List.{append-nil}
-use Rattle.std.proofs.lemmas.Bool.{cond-true, cases_Bool, leb-true, le-leb, cond-false}
+use Rattle.std.proofs.lemmas.Bool.{cond-true, leb-true, le-leb}
 use Rattle.ordered.proofs.Orders.{same_elements_same_list}
 use Rattle.profile.specs.declared.Rule.{Rule}
 use Rattle.profile.specs.declared.table.Table.{Table}
-use Rattle.profile.specs.Rules.{rule_key, rule_le}
+use Rattle.profile.specs.Rules.{rule_le}
 use Rattle.text.specs.declared.fault.Fault.{Fault}
 use Rattle.text.specs.declared.fault.WordFault.{WordFault}
 use Rattle.text.specs.declared.fault.WordCause.TheVariants.{TextTooLong}
@@ -13,11 +13,11 @@ use Rattle.text.specs.Faults.{word_fault}
 use Rattle.text.specs.Words.{Rest, Step, begun, length_judged}
 use Rattle.text.specs.Sections.{read_keyword, read_number, read_end}
 use Rattle.text.specs.ProfileText.{event_names, read_index, read_names, more_rules, read_rules, read_start, read_body, read_sections, Reading, reading_of, judged, read_profile, ReadInto}
-use Rattle.text.specs.Grammar.{Spaced, names_section, name_of, rules_words, profile_words, NamesDiffer, AllNamed, RulesDiffer, Says, Judged, OneReading}
+use Rattle.text.specs.Grammar.{Spaced, names_section, name_of, rules_words, NamesDiffer, Says, Judged, OneReading}
 use Rattle.text.proofs.Spacing.{impossible, Takes, takes_then, takes_as}
 use Rattle.text.proofs.Dues.{then_ok, then_is, ok_same, Reads, keyword_takes, keyword_reads, number_takes, number_reads, end_takes, end_reads}
 use Rattle.text.proofs.Naming.{section_takes, section_reads, index_takes, index_reads}
-use Rattle.text.proofs.Listing.{SameRules, RulesTaken, rules_take, RulesRead, rules_read}
+use Rattle.text.proofs.Listing.{rules_take, rules_read}
 
 -- the start
 abbrev start_words : List (List ℕ) → List (List ℕ) → ℕ × ℕ → List (List ℕ)

@@ -1,12 +1,12 @@
 -- One turn of the writing of slots, and the end of the writing of a whole text.
-use Rattle.std.proofs.Common.{◌≡◌, ℕ, ◌+◌, ◌<◌, ◌≤◌, true, false, cond, leb, List, [], ◌∷◌, ◌++◌, length, get_or, drop, Ok, Err, Result, sym, refl, ap, ◌∙◌, arith}
+use Rattle.std.proofs.Common.{◌≡◌, ℕ, ◌+◌, ◌<◌, ◌≤◌, List, [], ◌++◌, length, get_or, drop, Ok, Err, Result, sym, ap, ◌∙◌, arith}
 use Rattle.std.proofs.lemmas.List.{at_drop_more, drop_all}
 use Rattle.std.proofs.lemmas.Bool.{cond-true, cond-false, le-leb, lt-leb}
 use Rattle.profile.specs.declared.Rule.{Rule}
 use Rattle.profile.specs.declared.table.Table.{Table}
 use Rattle.text.specs.declared.fault.Fault.{Fault}
 use Rattle.text.specs.ProfileText.{ReadInto, read_profile}
-use Rattle.text.specs.Writing.{overlay, Wrote, write_answer, write_after}
+use Rattle.text.specs.Writing.{Wrote, write_answer, write_after}
 use Rattle.text.specs.Report.{slot_line, slot_lines, report_of, lint_bytes, outcome}
 use Rattle.text.proofs.Overlays.{overlay_whole}
 

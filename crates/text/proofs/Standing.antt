@@ -1,8 +1,8 @@
 -- Every fault stands where the text shows its cause.
-use Rattle.std.proofs.Common.{◌≡◌, ℕ, zero, suc, ◌+◌, ◌-◌, ◌<◌, ◌≤◌, Bool, true, false, cond, ◌&&◌, ◌||◌, eqb, leb, ◌⊎◌, List, [], ◌∷◌, ◌++◌, length, get_or, take, drop, is_some, Some, None, Ok, Err, codes, Option, Result, sym, refl, ap, ◌∙◌, subst, inl, inr, add-one, arith}
+use Rattle.std.proofs.Common.{◌≡◌, ℕ, zero, suc, ◌+◌, ◌-◌, ◌<◌, ◌≤◌, Bool, true, false, cond, ◌&&◌, leb, ◌⊎◌, List, [], ◌∷◌, ◌++◌, length, get_or, take, drop, is_some, Some, None, Ok, Err, codes, Option, Result, sym, refl, ap, ◌∙◌, subst, inl, inr, arith}
 use Rattle.std.specs.Str.{bytes_eq}
-use Rattle.std.proofs.lemmas.List.{drop-drop, take-take, length-drop, length-take-le, get_or-drop, length-take}
-use Rattle.std.proofs.lemmas.Bool.{cond-true, cond-false, cond_both, cases_Bool, and_parts, and_from, leb-true, leb-false, le-leb, both_ways, eq-eqb, or_left, or_right}
+use Rattle.std.proofs.lemmas.List.{drop-drop, length-drop, get_or-drop, length-take}
+use Rattle.std.proofs.lemmas.Bool.{cond-true, cond-false, cond_both, cases_Bool, and_from, leb-false, le-leb, both_ways}
 use Rattle.ordered.specs.Insert.{present, insert_into}
 use Rattle.profile.specs.declared.Mode.{Mode}
 use Rattle.profile.specs.declared.Mode.TheVariants.{May, Must}
@@ -11,15 +11,15 @@ use Rattle.profile.specs.declared.table.Table.{Table}
 use Rattle.profile.specs.Kinds.{event_kind}
 use Rattle.profile.specs.Rules.{rule_le}
 use Rattle.text.specs.declared.fault.Place.{Place}
-use Rattle.text.specs.declared.fault.WordCause.TheVariants.{TextTooLong, ByteNotAllowed, WordTooLong}
+use Rattle.text.specs.declared.fault.WordCause.TheVariants.{TextTooLong, ByteNotAllowed}
 use Rattle.text.specs.declared.fault.WordFault.{WordFault}
 use Rattle.text.specs.declared.fault.Fault.{Fault}
-use Rattle.text.specs.declared.fault.Cause.TheVariants.{InWords, InSections, InProfile}
+use Rattle.text.specs.declared.fault.Cause.TheVariants.{InWords}
 use Rattle.text.specs.declared.words.Due.{Due}
 use Rattle.text.specs.declared.words.Due.TheVariants as due
-use Rattle.text.specs.Faults.{place_at, word_fault}
-use Rattle.text.specs.Words.{text_end, is_blank, is_visible, Rest, Step, Spelled, run_end, cut, cut_at, word_at, found, next_from, next_word, begun, length_judged}
-use Rattle.text.specs.Sections.{and_then, there, word_due, read_keyword, in_range, plain_number, read_number, nothing_more, read_end}
+use Rattle.text.specs.Faults.{word_fault}
+use Rattle.text.specs.Words.{text_end, is_blank, is_visible, Rest, Step, Spelled, run_end, cut, cut_at, found, next_from, next_word, begun}
+use Rattle.text.specs.Sections.{and_then, there, word_due, read_keyword, in_range, plain_number, read_number, nothing_more}
 use Rattle.text.specs.ProfileText.{mode_word, event_names, index_of, more_names, read_names, known, read_index, read_mode, read_symbol_if, used_by, read_rule, more_rules, read_rules, read_start, read_body, read_sections, Reading, judged, read_profile, ReadInto}
 use Rattle.text.specs.Grammar.{Blank, Visible, BlankOrEnd}
 use Rattle.text.specs.Places.{byte_at, Begins, Stands, FaultStands}

@@ -1,5 +1,5 @@
 -- Writing into bytes that a caller lends.
-use Rattle.std.specs.Prelude.{◌≡◌, ℕ, zero, suc, ◌+◌, Bool, cond, List, [], ◌∷◌, ◌++◌, length, drop, Ok, Err, Result, nat_le}
+use Rattle.std.specs.Prelude.{◌≡◌, ℕ, zero, suc, ◌+◌, cond, List, [], ◌∷◌, ◌++◌, length, drop, Ok, Err, Result, nat_le}
 use Rattle.text.specs.declared.write.TooFewBytes.{TooFewBytes}
 
 -- the lent bytes with some others laid over them from a place on; what would lie past their end is left out

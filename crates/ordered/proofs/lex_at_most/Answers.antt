@@ -1,5 +1,5 @@
 use Rattle.std.proofs.Common.{rules}
-use Rattle.ordered.proofs.Lexes.{lex_more, lex_differ, lex_none, lex_short}
+use Rattle.ordered.proofs.Lexes.{lex_more, lex_none}
 use Rattle.ordered.proofs.lex_at_most.Goals as goal
 
 pub loop-a-preserved : goal.loop-a-preserved

@@ -1,4 +1,3 @@
-use Rattle.std.proofs.Common.{sym, ap, ◌∙◌, subst, arith}
 use Rattle.text.proofs.EventNames.{name_listed, name_short}
 use Rattle.text.proofs.names.event_name.Goals as goal
 

@@ -1,6 +1,6 @@
 use Rattle.std.proofs.Common.{◌∙◌, arith, rules}
 use Rattle.std.proofs.lemmas.Result.{err_from_is_err_and}
-use Rattle.text.specs.Words.{Step, Spelled, rest_of, spelled}
+use Rattle.text.specs.Words.{rest_of, spelled}
 use Rattle.text.proofs.NameSteps.{name_fault, name_twice, name_more}
 use Rattle.text.proofs.names.name_list.Goals as goal
 

@@ -1,4 +1,4 @@
-use Rattle.std.proofs.Common.{◌<◌, leb, sym, ap, ◌∙◌, arith, rules}
+use Rattle.std.proofs.Common.{◌<◌, leb, ap, ◌∙◌, arith, rules}
 use Rattle.profile.specs.declared.Rule.{Rule}
 use Rattle.text.proofs.RuleSteps.{rule_read_lawful}
 use Rattle.text.proofs.profiles.rule.Goals as goal

@@ -1,4 +1,4 @@
-use Rattle.std.proofs.Common.{◌+◌, ◌^◌, ◌<◌, length}
+use Rattle.std.proofs.Common.{length}
 use Rattle.text.proofs.Overlays.{WrittenSoFar}
 use Rattle.text.proofs.write.put.Given as goal
 

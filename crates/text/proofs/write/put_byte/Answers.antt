@@ -1,5 +1,3 @@
-use Rattle.std.proofs.Common.{◌+◌, [], ◌∷◌, sym, subst}
-use Rattle.text.specs.Writing.{Wrote}
 use Rattle.text.proofs.Overlays.{wrote_inside, wrote_past}
 use Rattle.text.proofs.write.put_byte.Goals as goal
 use Rattle.text.proofs.write.put_byte.Goals.{then-at-out, else-at-out}
