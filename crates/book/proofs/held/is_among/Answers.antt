@@ -7,17 +7,17 @@ use Rattle.book.specs.Blank.{blank_row}
 use Rattle.book.proofs.Scanning.{any_here, any_next, any_end}
 use Rattle.book.proofs.held.is_among.Goals as goal
 
-pub returns-then-is-same : goal.returns-then-is-same
-returns-then-is-same c =
+pub returns-then-is_same : goal.returns-then-is_same
+returns-then-is_same c =
     let test = λ (x : Row). row_eq (row_of c.args.row.now) (row_of x) in
     let all = λ (xs : List Row). any_of (row_eq (row_of c.args.row.now)) (said xs) in
-    any_here all test refl (λ x xs. refl) c.args.rows.now c.loop-old.old-index blank_row c.loop-old-test.true c.loop-old.invariant c.if-is-same.ensures
+    any_here all test refl (λ x xs. refl) c.args.rows.now c.loop-old.old-index blank_row c.loop-old-test.true c.loop-old.invariant c.if-is_same.ensures
 
 pub loop-old-preserved : goal.loop-old-preserved
 loop-old-preserved c =
     let test = λ (x : Row). row_eq (row_of c.args.row.now) (row_of x) in
     let all = λ (xs : List Row). any_of (row_eq (row_of c.args.row.now)) (said xs) in
-    any_next all test refl (λ x xs. refl) c.args.rows.now c.loop-old.old-index blank_row c.loop-old-test.true c.loop-old.invariant c.if-is-same.ensures
+    any_next all test refl (λ x xs. refl) c.args.rows.now c.loop-old.old-index blank_row c.loop-old-test.true c.loop-old.invariant c.if-is_same.ensures
 
 pub returns : goal.returns
 returns c =

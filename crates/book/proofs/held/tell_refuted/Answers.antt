@@ -7,17 +7,17 @@ use Rattle.book.specs.Blank.{blank_row}
 use Rattle.book.proofs.Scanning.{any_here, any_next, any_end}
 use Rattle.book.proofs.held.tell_refuted.Goals as goal
 
-pub returns-then-refutes-start : goal.returns-then-refutes-start
-returns-then-refutes-start c =
+pub returns-then-refutes_start : goal.returns-then-refutes_start
+returns-then-refutes_start c =
     let test = λ (x : Row). refutes c.args.start (row_of x) in
     let all = λ (xs : List Row). any_of (refutes c.args.start) (said xs) in
-    any_here all test refl (λ x xs. refl) c.args.rows.now c.loop-row.row-index blank_row c.loop-row-test.true c.loop-row.invariant c.if-refutes-start.ensures
+    any_here all test refl (λ x xs. refl) c.args.rows.now c.loop-row.row-index blank_row c.loop-row-test.true c.loop-row.invariant c.if-refutes_start.ensures
 
 pub loop-row-preserved : goal.loop-row-preserved
 loop-row-preserved c =
     let test = λ (x : Row). refutes c.args.start (row_of x) in
     let all = λ (xs : List Row). any_of (refutes c.args.start) (said xs) in
-    any_next all test refl (λ x xs. refl) c.args.rows.now c.loop-row.row-index blank_row c.loop-row-test.true c.loop-row.invariant c.if-refutes-start.ensures
+    any_next all test refl (λ x xs. refl) c.args.rows.now c.loop-row.row-index blank_row c.loop-row-test.true c.loop-row.invariant c.if-refutes_start.ensures
 
 pub returns : goal.returns
 returns c =

@@ -6,7 +6,7 @@ use Rattle.book.proofs.making.join_row.Goals.{else-i-rows-via-then-i-rows+else-j
 
 pub returns-then-j-rows : goal.returns-then-j-rows
 returns-then-j-rows c =
-    both_there c.args.rows.now c.args.i c.args.j blank_row (Join c.args.i c.args.j) c.join-rows.result c.with-head.result c.if-i-rows.true c.if-j-rows.true c.join-rows.ensures c.with-head.ensures
+    both_there c.args.rows.now c.args.i c.args.j blank_row (Join c.args.i c.args.j) c.join_rows.result c.with_head.result c.if-i-rows.true c.if-j-rows.true c.join_rows.ensures c.with_head.ensures
 
 pub returns-else-i-rows : goal.returns-else-i-rows
 returns-else-i-rows c =

@@ -5,4 +5,4 @@ use Rattle.book.proofs.making.offer_join.Goals as goal
 
 pub returns : goal.returns
 returns c s m =
-    offered_join c.args.free (said c.args.rows.now) event_kind s m c.args.start c.args.i c.args.j c.join-row.result c.if-new.result c.join-row.ensures c.if-new.ensures
+    offered_join c.args.free (said c.args.rows.now) event_kind s m c.args.start c.args.i c.args.j c.join_row.result c.if_new.result c.join_row.ensures c.if_new.ensures

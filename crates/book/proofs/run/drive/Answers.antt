@@ -27,11 +27,11 @@ loop-i-preserved g c =
     let asked = (get_or c.loop-i.turns c.loop-i.i blank_turn).call in
     let inside : c.loop-i.i < length c.loop-i.turns = omega arith in
     walk_goes_on event_kind s m (head_of_starts o p) room c.args.rows.now (is_completed c.args.book) (held_of c.args.book) c.args.turns.now c.loop-i.turns c.loop-i.i blank_turn
-    (record { call = asked; answer = c.step-next.result.1; held = c.held-in-held.result }) c.loop-i.book c.loop-i.rows c.step-next.new.rows c.step-next.result.0 inside c.loop-i.auto.turns
+    (record { call = asked; answer = c.step-next.result.1; held = c.held_in-held.result }) c.loop-i.book c.loop-i.rows c.step-next.new.rows c.step-next.result.0 inside c.loop-i.auto.turns
     c.loop-i.invariant.0 c.loop-i.invariant.1
     (step_kept event_kind s m a.each b.each (head_of_starts o p) room c.loop-i.book c.loop-i.rows asked c.step-next.new.rows c.step-next.result.0 c.step-next.result.1 (starts_small event_kind s m o p a b)
     c.loop-i.invariant.0.book_kept c.step-next.ensures)
-    c.held-in-held.ensures refl
+    c.held_in-held.ensures refl
 
 pub returns : goal.returns
 returns g c =

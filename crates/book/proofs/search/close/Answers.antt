@@ -12,7 +12,7 @@ pub search-init : goal.search-init
 search-init g c =
     let s = g.S.Profile.rules c.args.station.now in
     let m = g.M.Profile.rules c.args.manual.now in
-    (rows_begin event_kind s m c.args.start c.args.count c.args.rows.now c.try-head-progress.new.rows c.try-head-progress.result c.try-head-progress.ensures c.if-progress.false, c.if-progress.false)
+    (rows_begin event_kind s m c.args.start c.args.count c.args.rows.now c.try_head-progress.new.rows c.try_head-progress.result c.try_head-progress.ensures c.if-progress.false, c.if-progress.false)
 
 pub loop-j-init : goal.loop-j-init
 loop-j-init g c =
@@ -20,8 +20,8 @@ loop-j-init g c =
     let m = g.M.Profile.rules c.args.manual.now in
     let start = c.args.start in
     let row = get_or c.search.rows c.search.k blank_row in (
-      pairs_begin event_kind s m start c.search.rows c.try-tops-progress.new.rows c.search.progress.count c.try-tops-progress.result c.search.k (tops_tried event_kind s m start (said (take c.search.progress.count c.search.rows)) c.search.k (row_of row))
-          c.try-tops-progress.ensures c.if-progress-2.false,
+      pairs_begin event_kind s m start c.search.rows c.try_tops-progress.new.rows c.search.progress.count c.try_tops-progress.result c.search.k (tops_tried event_kind s m start (said (take c.search.progress.count c.search.rows)) c.search.k (row_of row))
+          c.try_tops-progress.ensures c.if-progress-2.false,
       c.if-progress-2.false,
     )
 
@@ -30,8 +30,8 @@ loop-j-preserved g c =
     let s = g.S.Profile.rules c.args.station.now in
     let m = g.M.Profile.rules c.args.manual.now in
     let start = c.args.start in (
-      pairs_go_on event_kind s m start c.try-tops-progress.result.count c.try-tops-progress.new.rows c.loop-j.rows c.try-pair-progress.new.rows c.loop-j.progress c.try-pair-progress.result c.search.k c.loop-j.j
-          c.loop-j.invariant.0 c.loop-j.invariant.1 c.try-pair-progress.ensures,
+      pairs_go_on event_kind s m start c.try_tops-progress.result.count c.try_tops-progress.new.rows c.loop-j.rows c.try_pair-progress.new.rows c.loop-j.progress c.try_pair-progress.result c.search.k c.loop-j.j
+          c.loop-j.invariant.0 c.loop-j.invariant.1 c.try_pair-progress.ensures,
       c.if-progress-3.false,
     )
 
@@ -40,11 +40,11 @@ search-preserved g c =
     let s = g.S.Profile.rules c.args.station.now in
     let m = g.M.Profile.rules c.args.manual.now in
     let start = c.args.start in
-    let forth = c.try-tops-progress.ensures.went.forth in
+    let forth = c.try_tops-progress.ensures.went.forth in
     let taken = c.search-test.true in
-    let below : c.search.k < c.try-tops-progress.result.count = omega arith in (
-      row_done event_kind s m start c.try-head-progress.result.count c.try-head-progress.new.rows c.try-tops-progress.new.rows c.loop-j.rows c.try-tops-progress.result c.loop-j.progress c.search.k c.loop-j.j below c.loop-j-test.false
-          (tops_done event_kind s m start c.try-head-progress.result.count c.try-head-progress.new.rows c.search.rows c.try-tops-progress.new.rows c.search.progress c.try-tops-progress.result c.search.k (get_or c.search.rows c.search.k blank_row) blank_row refl c.search-test.true c.search.invariant.0 c.search.invariant.1 c.try-tops-progress.ensures) c.if-progress-2.false c.loop-j.invariant.0,
+    let below : c.search.k < c.try_tops-progress.result.count = omega arith in (
+      row_done event_kind s m start c.try_head-progress.result.count c.try_head-progress.new.rows c.try_tops-progress.new.rows c.loop-j.rows c.try_tops-progress.result c.loop-j.progress c.search.k c.loop-j.j below c.loop-j-test.false
+          (tops_done event_kind s m start c.try_head-progress.result.count c.try_head-progress.new.rows c.search.rows c.try_tops-progress.new.rows c.search.progress c.try_tops-progress.result c.search.k (get_or c.search.rows c.search.k blank_row) blank_row refl c.search-test.true c.search.invariant.0 c.search.invariant.1 c.try_tops-progress.ensures) c.if-progress-2.false c.loop-j.invariant.0,
       c.loop-j.invariant.1,
     )
 
@@ -53,20 +53,20 @@ returns-after-search g c =
     let s = g.S.Profile.rules c.args.station.now in
     let m = g.M.Profile.rules c.args.manual.now in
     let start = c.args.start in
-    all_done event_kind s m start c.args.count c.args.rows.now c.try-head-progress.new.rows c.search.rows c.try-head-progress.result c.search.progress c.search.k c.search-test.false
-    c.try-head-progress.ensures c.if-progress.false c.search.invariant.0
+    all_done event_kind s m start c.args.count c.args.rows.now c.try_head-progress.new.rows c.search.rows c.try_head-progress.result c.search.progress c.search.k c.search-test.false
+    c.try_head-progress.ensures c.if-progress.false c.search.invariant.0
 
 pub returns-then-progress-2 : goal.returns-then-progress-2
 returns-then-progress-2 g c =
     let s = g.S.Profile.rules c.args.station.now in
     let m = g.M.Profile.rules c.args.manual.now in
     let start = c.args.start in
-    stepped_stuck event_kind s m start c.args.count c.args.rows.now c.try-head-progress.new.rows c.try-tops-progress.new.rows c.try-head-progress.result c.try-tops-progress.result
+    stepped_stuck event_kind s m start c.args.count c.args.rows.now c.try_head-progress.new.rows c.try_tops-progress.new.rows c.try_head-progress.result c.try_tops-progress.result
     (head_tried event_kind s m start (said (take c.args.count c.args.rows.now)) start) (done_to event_kind s m start 0) (all_tried event_kind s m start)
-    c.try-head-progress.ensures
-    (stepped_stuck event_kind s m start c.try-head-progress.result.count c.try-head-progress.new.rows c.search.rows c.try-tops-progress.new.rows c.search.progress c.try-tops-progress.result
+    c.try_head-progress.ensures
+    (stepped_stuck event_kind s m start c.try_head-progress.result.count c.try_head-progress.new.rows c.search.rows c.try_tops-progress.new.rows c.search.progress c.try_tops-progress.result
     (done_to event_kind s m start c.search.k) (tops_tried event_kind s m start (said (take c.search.progress.count c.search.rows)) c.search.k (row_of (get_or c.search.rows c.search.k blank_row))) (done_to event_kind s m start 0)
-    c.search.invariant.0 c.try-tops-progress.ensures c.if-progress-2.true)
+    c.search.invariant.0 c.try_tops-progress.ensures c.if-progress-2.true)
     c.if-progress-2.true
 
 pub returns-then-progress-3 : goal.returns-then-progress-3
@@ -74,14 +74,14 @@ returns-then-progress-3 g c =
     let s = g.S.Profile.rules c.args.station.now in
     let m = g.M.Profile.rules c.args.manual.now in
     let start = c.args.start in
-    stepped_stuck event_kind s m start c.args.count c.args.rows.now c.try-head-progress.new.rows c.try-pair-progress.new.rows c.try-head-progress.result c.try-pair-progress.result
+    stepped_stuck event_kind s m start c.args.count c.args.rows.now c.try_head-progress.new.rows c.try_pair-progress.new.rows c.try_head-progress.result c.try_pair-progress.result
     (head_tried event_kind s m start (said (take c.args.count c.args.rows.now)) start) (done_to event_kind s m start 0) (all_tried event_kind s m start)
-    c.try-head-progress.ensures
-    (stepped_stuck event_kind s m start c.try-head-progress.result.count c.try-head-progress.new.rows c.try-tops-progress.new.rows c.try-pair-progress.new.rows c.try-tops-progress.result c.try-pair-progress.result
+    c.try_head-progress.ensures
+    (stepped_stuck event_kind s m start c.try_head-progress.result.count c.try_head-progress.new.rows c.try_tops-progress.new.rows c.try_pair-progress.new.rows c.try_tops-progress.result c.try_pair-progress.result
     (RowNext event_kind s m start c.search.k) (done_to event_kind s m start 0) (done_to event_kind s m start 0)
-    (tops_done event_kind s m start c.try-head-progress.result.count c.try-head-progress.new.rows c.search.rows c.try-tops-progress.new.rows c.search.progress c.try-tops-progress.result c.search.k (get_or c.search.rows c.search.k blank_row) blank_row refl c.search-test.true c.search.invariant.0 c.search.invariant.1 c.try-tops-progress.ensures)
-    (stepped_stuck event_kind s m start c.try-tops-progress.result.count c.try-tops-progress.new.rows c.loop-j.rows c.try-pair-progress.new.rows c.loop-j.progress c.try-pair-progress.result
-    (pairs_tried event_kind s m start (said (take c.try-tops-progress.result.count c.try-tops-progress.new.rows)) c.search.k c.loop-j.j) (pair_tried event_kind s m start (said (take c.loop-j.progress.count c.loop-j.rows)) c.search.k c.loop-j.j) (done_to event_kind s m start 0)
-    c.loop-j.invariant.0 c.try-pair-progress.ensures c.if-progress-3.true)
+    (tops_done event_kind s m start c.try_head-progress.result.count c.try_head-progress.new.rows c.search.rows c.try_tops-progress.new.rows c.search.progress c.try_tops-progress.result c.search.k (get_or c.search.rows c.search.k blank_row) blank_row refl c.search-test.true c.search.invariant.0 c.search.invariant.1 c.try_tops-progress.ensures)
+    (stepped_stuck event_kind s m start c.try_tops-progress.result.count c.try_tops-progress.new.rows c.loop-j.rows c.try_pair-progress.new.rows c.loop-j.progress c.try_pair-progress.result
+    (pairs_tried event_kind s m start (said (take c.try_tops-progress.result.count c.try_tops-progress.new.rows)) c.search.k c.loop-j.j) (pair_tried event_kind s m start (said (take c.loop-j.progress.count c.loop-j.rows)) c.search.k c.loop-j.j) (done_to event_kind s m start 0)
+    c.loop-j.invariant.0 c.try_pair-progress.ensures c.if-progress-3.true)
     c.if-progress-3.true)
     c.if-progress-3.true

@@ -12,13 +12,13 @@ returns-then-first g c =
     let s = g.S.Profile.rules c.args.station.now in
     let m = g.M.Profile.rules c.args.manual.now in
     let before = said (take c.args.count c.args.rows.now) in
-    stuck_there event_kind s m c.args.start c.args.count c.args.rows.now c.try-side-first.new.rows c.try-side-first.result
+    stuck_there event_kind s m c.args.start c.args.count c.args.rows.now c.try_side-first.new.rows c.try_side-first.result
     (side_tried event_kind s m c.args.start before Station (length s) c.args.head) (head_tried event_kind s m c.args.start before c.args.head)
-    c.try-side-first.ensures c.if-first.true
+    c.try_side-first.ensures c.if-first.true
 
 pub returns : goal.returns
 returns g c =
     let s = g.S.Profile.rules c.args.station.now in
     let m = g.M.Profile.rules c.args.manual.now in
-    head_done event_kind s m c.args.start c.args.count c.args.rows.now c.try-side-first.new.rows c.try-side.new.rows c.try-side-first.result c.try-side.result c.args.head
-    c.try-side-first.ensures c.if-first.false c.try-side.ensures
+    head_done event_kind s m c.args.start c.args.count c.args.rows.now c.try_side-first.new.rows c.try_side.new.rows c.try_side-first.result c.try_side.result c.args.head
+    c.try_side-first.ensures c.if-first.false c.try_side.ensures

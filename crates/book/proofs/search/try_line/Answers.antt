@@ -4,8 +4,8 @@ use Rattle.book.proofs.search.try_line.Goals as goal
 
 pub returns-in-Ok : goal.returns-in-Ok
 returns-in-Ok g c =
-    line_made event_kind (g.S.Profile.rules c.args.station.now) (g.M.Profile.rules c.args.manual.now) c.args.start c.args.count c.args.rows.now c.args.line c.has-room-free.result c.requires c.has-room-free.ensures c.in-Ok.row c.in-Ok.ensures
+    line_made event_kind (g.S.Profile.rules c.args.station.now) (g.M.Profile.rules c.args.manual.now) c.args.start c.args.count c.args.rows.now c.args.line c.has_room-free.result c.requires c.has_room-free.ensures c.in-Ok.row c.in-Ok.ensures
 
 pub returns-in-Err : goal.returns-in-Err
 returns-in-Err g c =
-    line_refused event_kind (g.S.Profile.rules c.args.station.now) (g.M.Profile.rules c.args.manual.now) c.args.start c.args.count c.args.rows.now c.args.line c.has-room-free.result c.requires c.has-room-free.ensures c.in-Err.why c.is-stuck.result c.in-Err.ensures c.is-stuck.ensures
+    line_refused event_kind (g.S.Profile.rules c.args.station.now) (g.M.Profile.rules c.args.manual.now) c.args.start c.args.count c.args.rows.now c.args.line c.has_room-free.result c.requires c.has_room-free.ensures c.in-Err.why c.is_stuck.result c.in-Err.ensures c.is_stuck.ensures
