@@ -1,6 +1,7 @@
 pub mod Equals
 pub mod Numbers
 pub mod Tested
+pub mod Ruling
 pub mod Replays
 pub mod Ranges
 pub mod Endings

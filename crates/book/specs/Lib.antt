@@ -1,6 +1,7 @@
 -- The book: its refusals, what an offered line comes to, and what a list of calls comes to.
 pub mod Refusals
 pub mod Offers
+pub mod Rulings
 pub mod Searches
 pub mod Trying
 pub mod Widths

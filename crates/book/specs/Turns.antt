@@ -17,9 +17,14 @@ use Rattle.book.specs.declared.run.Call.{Call}
 use Rattle.book.specs.declared.run.Call.TheVariants as call
 use Rattle.book.specs.declared.run.Answer.{Answer}
 use Rattle.book.specs.declared.run.Answer.TheVariants as answer
+use Rattle.book.specs.declared.run.Turn.{Turn}
 use Rattle.book.specs.declared.run.Book.{Book}
 use Rattle.book.specs.declared.run.Book.TheVariants as book
 use Rattle.book.specs.Drafts.{draft_offer, told, rows_after, draft_after, draft_answer, verdict_of, Completes, LeavesOff}
+
+-- a turn whose call is still to be made
+abbrev pub to_be_made : Call → Turn
+to_be_made c = record { call = c; answer = answer.NotOffered; held = 0 }
 
 abbrev pub held_of : Book → ℕ
 held_of (book.Draft d) = d.held

@@ -16,21 +16,21 @@ use profile::Profile;
 
 // What a draft answers.
 #[derive(Clone, Copy, PartialEq, Eq, Debug)]
-pub(crate) enum Asked {
+pub enum Asked {
     Refuted,
     Undecided,
 }
 
 // What a completed book answers.
 #[derive(Clone, Copy, PartialEq, Eq, Debug)]
-pub(crate) enum Verdict {
+pub enum Verdict {
     Refuted,
     Refines,
 }
 
 impl Draft {
     // A draft that holds nothing, for the starts of two profiles.
-    pub(crate) fn new<S: Profile, M: Profile>(station: &S, manual: &M) -> Draft
+    pub fn new<S: Profile, M: Profile>(station: &S, manual: &M) -> Draft
         ensures { result ≡ empty_draft (head_of_starts (S.Profile.origin station.now) (M.Profile.origin manual.now)) }
     {
         let (s, x) = station.start();
@@ -63,7 +63,7 @@ impl Draft {
     }
 
     // An enter: the number of the row that is appended, or a refusal.
-    pub(crate) fn enter<S: Profile, M: Profile>(
+    pub fn enter<S: Profile, M: Profile>(
         &mut self,
         station: &S,
         manual: &M,
@@ -95,7 +95,7 @@ impl Draft {
     }
 
     // A join of two held rows: the number of the row that is appended, or a refusal. It needs no profile.
-    pub(crate) fn join(&mut self, rows: &mut [Row], i: usize, j: usize) -> Result<usize, Refusal>
+    pub fn join(&mut self, rows: &mut [Row], i: usize, j: usize) -> Result<usize, Refusal>
         ensures answer { (s m : List (Option Rule)) → result ≡ told self.old (draft_offer event_kind s m self.old rows.old (Join i j)) }
         ensures lent { (s m : List (Option Rule)) → rows.new ≡ rows_after self.old rows.old (Join i j) (draft_offer event_kind s m self.old rows.old (Join i j)) }
         ensures draft { (s m : List (Option Rule)) → self.new ≡ draft_after self.old (draft_offer event_kind s m self.old rows.old (Join i j)) }
@@ -108,7 +108,7 @@ impl Draft {
     }
 
     // Whether the held rows say that the starts are refuted. If not, a draft leaves it open.
-    pub(crate) fn ask(&self, rows: &[Row]) -> Asked
+    pub fn ask(&self, rows: &[Row]) -> Asked
         ensures { result ≡ draft_answer self.now rows.now }
     {
         if tell_refuted(self.start, held_of(rows, self.held)) {
@@ -121,7 +121,7 @@ impl Draft {
 
 impl Completed {
     // Whether the held rows say that the starts are refuted. If not, the station refines the manual.
-    pub(crate) fn verdict(&self, rows: &[Row]) -> Verdict
+    pub fn verdict(&self, rows: &[Row]) -> Verdict
         ensures { result ≡ verdict_of self.now rows.now }
     {
         if tell_refuted(self.start, held_of(rows, self.held)) {

@@ -5,14 +5,16 @@ ghost use Rattle.std.specs.Prelude.{◌≡◌};
 ghost use Rattle.book.specs.Refusals.{refusal_number};
 
 mod attack;
-mod calls;
+pub mod calls;
+mod completed;
 mod held;
 mod joining;
 mod making;
 mod reply;
-mod run;
+pub mod rulings;
+pub mod run;
 mod search;
-mod state;
+pub mod state;
 mod width;
 
 // Why a line was not taken, or a search left off.

@@ -4,7 +4,7 @@ ghost use Rattle.profile.specs.Kinds.{event_kind};
 ghost use Rattle.book.specs.Offers.{usable};
 ghost use Rattle.game.specs.Rows.{head_of_starts};
 ghost use Rattle.book.specs.Guarantee.{BookKept, Guarantee};
-ghost use Rattle.book.specs.Turns.{held_of, is_completed, line_answer, ask_answer, verdict_answer, StepsDraft, StepsCompleted, Steps};
+ghost use Rattle.book.specs.Turns.{to_be_made, held_of, is_completed, line_answer, ask_answer, verdict_answer, StepsDraft, StepsCompleted, Steps};
 
 use crate::Refusal;
 use crate::calls::{Asked, Verdict};
@@ -13,8 +13,8 @@ use game::Row;
 use profile::Profile;
 
 // A call, in any numbers.
-#[derive(Clone, Copy)]
-pub(crate) enum Call {
+#[derive(Clone, Copy, PartialEq, Eq, Debug)]
+pub enum Call {
     Enter {
         side: usize,
         slot: usize,
@@ -31,8 +31,8 @@ pub(crate) enum Call {
 }
 
 // What a call is answered.
-#[derive(Clone, Copy)]
-pub(crate) enum Answer {
+#[derive(Clone, Copy, PartialEq, Eq, Debug)]
+pub enum Answer {
     // The number of the row that was appended.
     Row(usize),
     Refused(Refusal),
@@ -46,16 +46,16 @@ pub(crate) enum Answer {
 }
 
 // A call with its answer, and how many rows are held after it.
-#[derive(Clone, Copy)]
-pub(crate) struct Turn {
-    pub(crate) call: Call,
-    pub(crate) answer: Answer,
-    pub(crate) held: usize,
+#[derive(Clone, Copy, PartialEq, Eq, Debug)]
+pub struct Turn {
+    pub call: Call,
+    pub answer: Answer,
+    pub held: usize,
 }
 
 // A book in either state.
 #[derive(Drop)]
-pub(crate) enum Book {
+pub enum Book {
     Draft(Draft),
     Completed(Completed),
 }
@@ -67,6 +67,28 @@ fn held_in(book: &Book) -> usize
     match book {
         Book::Draft(draft) => draft.held,
         Book::Completed(done) => done.held,
+    }
+}
+
+impl Turn {
+    // A call that is still to be made.
+    pub fn new(call: Call) -> Turn
+        ensures { result ≡ to_be_made call }
+    {
+        Turn {
+            call,
+            answer: Answer::NotOffered,
+            held: 0,
+        }
+    }
+}
+
+impl Book {
+    // How many rows the book holds.
+    pub fn held(&self) -> usize
+        ensures { result ≡ held_of self.now }
+    {
+        held_in(self)
     }
 }
 
@@ -194,7 +216,7 @@ pub(crate) fn drive<S: Profile, M: Profile>(
 }
 
 // Gives a new draft to each call in turn.
-pub(crate) fn run<S: Profile, M: Profile>(
+pub fn run<S: Profile, M: Profile>(
     station: &S,
     manual: &M,
     rows: &mut [Row],

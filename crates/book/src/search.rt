@@ -339,7 +339,7 @@ pub(crate) fn close<S: Profile, M: Profile>(
 impl Draft {
     // Appends derivable rows, each with the line that makes it, until none is missing: the book is completed. The draft
     // is handed back at the first missing row that is too wide or finds no usable row free.
-    pub(crate) fn search<S: Profile, M: Profile>(
+    pub fn search<S: Profile, M: Profile>(
         self,
         station: &S,
         manual: &M,

@@ -1,16 +1,27 @@
 // The two states of a book.
+ghost use Rattle.std.specs.Prelude.{◌≡◌};
+
 use game::Head;
 
 // A book that is still being written: the head of the two starts, and how many rows it holds. It cannot be copied.
 #[derive(Drop)]
-pub(crate) struct Draft {
+pub struct Draft {
     pub(crate) start: Head,
     pub(crate) held: usize,
 }
 
 // A book that no derivable row is missing from. It cannot be copied either, and nothing can be entered in it.
 #[derive(Drop)]
-pub(crate) struct Completed {
+pub struct Completed {
     pub(crate) start: Head,
     pub(crate) held: usize,
+}
+
+impl Draft {
+    // How many rows the draft holds.
+    pub fn held(&self) -> usize
+        ensures { result ≡ self.now.held }
+    {
+        self.held
+    }
 }

@@ -1,0 +1,13 @@
+// What a completed book tells of itself.
+ghost use Rattle.std.specs.Prelude.{◌≡◌};
+
+use crate::state::Completed;
+
+impl Completed {
+    // How many rows the completed book holds.
+    pub fn held(&self) -> usize
+        ensures { result ≡ self.now.held }
+    {
+        self.held
+    }
+}
