@@ -27,8 +27,8 @@ rejected() { # TEXT WORDS: TEXT.txt is rejected with these words in the one line
     line=$({ diff "$here/$1.txt" "$here/$1.twin.txt" || true; } | sed -n 's/^\([0-9]*\)c\1$/\1/p')
     if [ -z "$line" ]; then echo "$1: the twin does not differ in just one line"; exit 1; fi
     add "$1" "$1.txt"
-    if (cd "$work" && rt check "$1" >"$work/$1.out" 2>&1); then echo "$1: accepted, but must be rejected"; exit 1; fi
-    if ! grep -F "/$1/src/lib.rt:$line:" "$work/$1.out" | grep -qF "$2"; then
+    if (cd "$work/crates/$1" && rt check >"$work/$1.out" 2>&1); then echo "$1: accepted, but must be rejected"; exit 1; fi
+    if ! grep -E "(^|[ /])src/lib.rt:$line:" "$work/$1.out" | grep -qF "$2"; then
         echo "$1: rejected, but not in line $line with '$2':"
         tail -n 20 "$work/$1.out"
         exit 1
@@ -42,8 +42,9 @@ for program in $programs; do
     add "${program}_twin" "$program.twin.txt"
     twins="$twins ${program}_twin"
 done
-# shellcheck disable=SC2086
-if ! (cd "$work" && rt check $twins >"$work/twins.out" 2>&1); then echo "not proved:$twins"; tail -n 20 "$work/twins.out"; exit 1; fi
+for twin in $twins; do
+    if ! (cd "$work/crates/$twin" && rt check >"$work/$twin.out" 2>&1); then echo "$twin: not proved:"; tail -n 20 "$work/$twin.out"; exit 1; fi
+done
 echo "proved, as they must be:$twins"
 rejected verdict_of_a_draft 'error[unknown-method]: no method named `verdict` found for type `Draft`'
 rejected enter_in_a_completed_book 'error[unknown-method]: no method named `enter` found for type `Completed`'

@@ -22,4 +22,7 @@ pub mod Closing
 pub mod Searched
 pub mod Turning
 pub mod Keeping
+pub mod Lending
 pub mod Walking
+pub mod Seconds
+pub mod Contracting

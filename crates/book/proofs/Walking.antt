@@ -32,19 +32,8 @@ use Rattle.book.specs.Guarantee.{completed_by, held_after, completed_after, Line
 use Rattle.book.proofs.Tested.{taken}
 use Rattle.book.proofs.Ranges.{SmallHead}
 use Rattle.book.proofs.Replays.{accept_shown, grown_none, grown_by_line, built_grown}
+use Rattle.book.proofs.Lending.{held_long, held_set, usable_set}
 use Rattle.book.proofs.Keeping.{turn_kept}
-
--- how many rows are held of those that are lent, and one more of them
-pub held_long : (lent : List LentRow) (held : ℕ) → held ≤ usable lent → length (held_rows lent held) ≡ held
-held_long lent held h = let n = length-take 1024 lent in length-take-le held (take 1024 lent) (omega arith)
-
-held_set : (lent : List LentRow) (held : ℕ) (row : LentRow) → held < usable lent → held_rows (set lent held row) (held + 1) ≡ held_rows lent held ++ row ∷ []
-held_set lent held row h =
-    take-take (held + 1) 1024 (set lent held row) (omega arith) ∙ take_more_set lent held row (omega arith) ∙
-    ap (λ (x : List LentRow). x ++ row ∷ []) (sym (take-take held 1024 lent (omega arith)))
-
-usable_set : (lent : List LentRow) (held : ℕ) (row : LentRow) → usable (set lent held row) ≡ usable lent
-usable_set lent held row = ap (λ (n : ℕ). min 1024 n) (length-set lent held row)
 
 -- the answers of ask and verdict
 ask_told : (b : Bool) → ask_answer (cond b asked.Refuted asked.Undecided) ≡ cond b answer.Refuted answer.Undecided

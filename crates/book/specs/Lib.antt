@@ -12,3 +12,4 @@ pub mod Written
 pub mod Drafts
 pub mod Turns
 pub mod Guarantee
+pub mod ByContract

@@ -4,6 +4,7 @@ ghost use Rattle.profile.specs.Kinds.{event_kind};
 ghost use Rattle.book.specs.Offers.{usable};
 ghost use Rattle.game.specs.Rows.{head_of_starts};
 ghost use Rattle.book.specs.Guarantee.{BookKept, Guarantee};
+ghost use Rattle.book.specs.ByContract.{GuaranteeByContract};
 ghost use Rattle.book.specs.Turns.{to_be_made, held_of, is_completed, line_answer, ask_answer, verdict_answer, StepsDraft, StepsCompleted, Steps};
 
 use crate::Refusal;
@@ -201,7 +202,8 @@ pub(crate) fn drive<S: Profile, M: Profile>(
     turns: &mut [Turn],
 ) -> Book
     requires { BookKept event_kind (S.Profile.rules station.now) (M.Profile.rules manual.now) (head_of_starts (S.Profile.origin station.now) (M.Profile.origin manual.now)) (usable rows.old) book rows.old }
-    ensures { Guarantee event_kind (S.Profile.rules station.now) (M.Profile.rules manual.now) (head_of_starts (S.Profile.origin station.now) (M.Profile.origin manual.now)) (usable rows.old) (is_completed book) (held_of book) turns.old turns.new rows.old result rows.new }
+    ensures kept { Guarantee event_kind (S.Profile.rules station.now) (M.Profile.rules manual.now) (head_of_starts (S.Profile.origin station.now) (M.Profile.origin manual.now)) (usable rows.old) (is_completed book) (held_of book) turns.old turns.new rows.old result rows.new }
+    ensures by_contract { GuaranteeByContract event_kind (S.Profile.rules station.now) (M.Profile.rules manual.now) (head_of_starts (S.Profile.origin station.now) (M.Profile.origin manual.now)) (usable rows.old) (is_completed book) (held_of book) turns.old turns.new rows.old result rows.new }
 {
     let mut book = book;
     let all = turns.len();
@@ -222,7 +224,8 @@ pub fn run<S: Profile, M: Profile>(
     rows: &mut [Row],
     turns: &mut [Turn],
 ) -> Book
-    ensures { Guarantee event_kind (S.Profile.rules station.now) (M.Profile.rules manual.now) (head_of_starts (S.Profile.origin station.now) (M.Profile.origin manual.now)) (usable rows.old) false 0 turns.old turns.new rows.old result rows.new }
+    ensures kept { Guarantee event_kind (S.Profile.rules station.now) (M.Profile.rules manual.now) (head_of_starts (S.Profile.origin station.now) (M.Profile.origin manual.now)) (usable rows.old) false 0 turns.old turns.new rows.old result rows.new }
+    ensures by_contract { GuaranteeByContract event_kind (S.Profile.rules station.now) (M.Profile.rules manual.now) (head_of_starts (S.Profile.origin station.now) (M.Profile.origin manual.now)) (usable rows.old) false 0 turns.old turns.new rows.old result rows.new }
 {
     let book = Book::Draft(Draft::new(station, manual));
     drive(book, station, manual, rows, turns)
