@@ -95,7 +95,7 @@ module _ (kinds : ℕ → Option Kind) (station manual : List (Option Rule)) (st
   completed_settled true call.Verdict before after reply n w e = absurd (not_completed (says_refuted start (said before)) answer.Refines reply n (λ f. impossible (cc)) w.0 e)
 
   -- every usable row is taken, or a row too wide is one line away
-  what_is_missing : (rows : List LentRow) → Built kinds station manual start room rows → Stuck kinds station manual start room rows →
+  pub what_is_missing : (rows : List LentRow) → Built kinds station manual start room rows → Stuck kinds station manual start room rows →
       (length rows ≡ room) ⊎ ((line : Line) × (offer kinds station manual start (ltb (length rows) room) (said rows) line ≡ Err TooManyMembers))
   what_is_missing rows built (line, inl e) = inr (line, e)
   what_is_missing rows built (line, inr e) =

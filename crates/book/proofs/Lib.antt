@@ -26,3 +26,4 @@ pub mod Lending
 pub mod Walking
 pub mod Seconds
 pub mod Contracting
+pub mod Decided

@@ -13,3 +13,4 @@ pub mod Drafts
 pub mod Turns
 pub mod Guarantee
 pub mod ByContract
+pub mod Deciding

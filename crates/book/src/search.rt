@@ -4,7 +4,9 @@ ghost use Rattle.profile.specs.Kinds.{event_kind};
 ghost use Rattle.game.specs.Members.{row_of};
 ghost use Rattle.book.specs.Offers.{usable, said};
 ghost use Rattle.book.specs.Sides.{slots_of, rule_at, enter_at, InBytes};
+ghost use Rattle.game.specs.Rows.{head_of_starts};
 ghost use Rattle.book.specs.Drafts.{SearchEnds};
+ghost use Rattle.book.specs.Deciding.{OwnRows, DecidesRightly};
 ghost use Rattle.book.specs.Trying.{stuck_by, Stepped, line_tried, slot_tried, side_tried, head_tried, new_tried, top_tried, tops_tried, pair_tried, all_tried};
 
 use crate::Refusal;
@@ -338,14 +340,16 @@ pub(crate) fn close<S: Profile, M: Profile>(
 
 impl Draft {
     // Appends derivable rows, each with the line that makes it, until none is missing: the book is completed. The draft
-    // is handed back at the first missing row that is too wide or finds no usable row free.
+    // is handed back at the first missing row that is too wide or finds no usable row free. Where the rows held are this
+    // book's own, the search decides: it completes exactly when the derivable rows fit, and then the verdict is right.
     pub fn search<S: Profile, M: Profile>(
         self,
         station: &S,
         manual: &M,
         rows: &mut [Row],
     ) -> Result<Completed, (Draft, Refusal)>
-        ensures { SearchEnds event_kind (S.Profile.rules station.now) (M.Profile.rules manual.now) self rows.old rows.new result }
+        ensures ends { SearchEnds event_kind (S.Profile.rules station.now) (M.Profile.rules manual.now) self rows.old rows.new result }
+        ensures decides { self.start ≡ head_of_starts (S.Profile.origin station.now) (M.Profile.origin manual.now) → OwnRows event_kind (S.Profile.rules station.now) (M.Profile.rules manual.now) self rows.old → DecidesRightly event_kind (S.Profile.rules station.now) (M.Profile.rules manual.now) self rows.old rows.new result }
     {
         let start = self.start;
         let most = rows.len().min(1024);
