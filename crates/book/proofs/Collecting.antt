@@ -1,5 +1,5 @@
 -- Members gathered from slot after slot, as long as there are at most twelve.
-use Rattle.std.proofs.Common.{◌≡◌, ℕ, ◌+◌, ◌<◌, ◌≤◌, Bool, cond, List, [], ◌∷◌, length, get_or, drop, Some, None, Ok, Err, Option, Result, sym, refl, ap, ◌∙◌, subst, arith}
+use Rattle.std.proofs.Common.{◌≡◌, ℕ, ◌+◌, ◌<◌, ◌≤◌, Bool, cond, List, [], ◌∷◌, length, get_or, drop, Some, None, Ok, Err, Option, sym, refl, ap, ◌∙◌, arith}
 use Rattle.std.proofs.lemmas.List.{drop_more, drop_all}
 use Rattle.std.proofs.lemmas.Bool.{cond_both}
 use Rattle.ordered.specs.Insert.{insert_into}
@@ -8,9 +8,8 @@ use Rattle.game.specs.declared.Member.{Member}
 use Rattle.game.specs.Members.{member_le}
 use Rattle.game.specs.Rows.{gathered}
 use Rattle.book.specs.declared.Refusal.{Refusal}
-use Rattle.book.specs.declared.Refusal.TheVariants.{TooManyMembers}
 use Rattle.book.specs.declared.width.Members.{Members}
-use Rattle.book.specs.Widths.{twelve, fitted, Holds}
+use Rattle.book.specs.Widths.{fitted, Holds}
 use Rattle.book.proofs.Inserting.{fits, too_many, fitted_ok, fitted_err, inserted_grows}
 
 module _ (test : Rule → Bool) (make : Rule → Member) where

@@ -9,7 +9,6 @@ use Rattle.game.specs.Rows.{head_of_starts}
 use Rattle.book.specs.declared.Refusal.{Refusal}
 use Rattle.book.specs.declared.state.Draft.{Draft}
 use Rattle.book.specs.declared.state.Completed.{Completed}
-use Rattle.book.specs.declared.calls.Verdict.{Verdict}
 use Rattle.book.specs.declared.calls.Verdict.TheVariants as verdict
 use Rattle.book.specs.Offers.{usable, held_rows, said, says_refuted}
 use Rattle.book.specs.Drafts.{SearchEnds}

@@ -1,5 +1,5 @@
 -- What the code makes of a line is what the line comes to.
-use Rattle.std.proofs.Common.{◌≡◌, ℕ, zero, suc, ◌-◌, ◌<◌, ◌≤◌, min, Bool, true, false, cond, ◌&&◌, ltb, leb, List, [], ◌∷◌, ◌++◌, map, length, get_or, take, replicate, Some, None, Ok, Err, Option, Result, sym, refl, ap, ◌∙◌, subst, arith}
+use Rattle.std.proofs.Common.{◌≡◌, ℕ, zero, suc, ◌-◌, ◌<◌, ◌≤◌, min, Bool, true, false, cond, ◌&&◌, ltb, leb, List, [], ◌∷◌, ◌++◌, map, length, get_or, take, replicate, Some, None, Ok, Err, Option, Result, sym, refl, ap, ◌∙◌, arith}
 use Rattle.std.proofs.lemmas.List.{take_at}
 use Rattle.std.proofs.lemmas.Bool.{cond_both, leb-true}
 use Rattle.profile.specs.declared.Kind.{Kind}
@@ -13,9 +13,9 @@ use Rattle.game.specs.Members.{AttackRow, row_of, top_of, below_top}
 use Rattle.game.specs.Rows.{entered, with_pairs, put_in}
 use Rattle.game.specs.Computed.{any_of, called_for, is_top, pairless, front_of, last_of, joined_last, joined_members, joined}
 use Rattle.book.specs.declared.Refusal.{Refusal}
-use Rattle.book.specs.declared.Refusal.TheVariants.{NoSuchAttack, HeadNotCalledFor, TooManyMembers, RowAlreadyHeld, NoRowFree, RowNotHeld, RowsDoNotJoin}
+use Rattle.book.specs.declared.Refusal.TheVariants.{NoSuchAttack, HeadNotCalledFor, TooManyMembers, RowAlreadyHeld, NoRowFree, RowNotHeld}
 use Rattle.book.specs.declared.width.Members.{Members}
-use Rattle.book.specs.Offers.{and_then, said, row_at, Attempt, attempt, row_eq, entered_row, joined_row, join_of, line_row, attempt_called, line_called, offer, blank_member, written}
+use Rattle.book.specs.Offers.{and_then, said, row_at, Attempt, attempt, row_eq, entered_row, joined_row, join_of, attempt_called, offer, blank_member, written}
 use Rattle.book.specs.Attacks.{taken_up}
 use Rattle.book.specs.Widths.{twelve, fitted, fitted_join}
 use Rattle.book.specs.Written.{headed, fitted_row, fitted_if, fitted_both, new_and_free}

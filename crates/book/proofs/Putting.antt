@@ -1,12 +1,11 @@
 -- Members put among others one after the other, as long as there are at most twelve.
-use Rattle.std.proofs.Common.{◌≡◌, ℕ, ◌+◌, ◌<◌, ◌≤◌, List, [], ◌∷◌, map, length, get_or, drop, Ok, Err, Result, sym, refl, ap, ◌∙◌, arith}
+use Rattle.std.proofs.Common.{◌≡◌, ℕ, ◌+◌, ◌<◌, ◌≤◌, List, [], ◌∷◌, map, length, get_or, drop, Ok, Err, sym, refl, ap, ◌∙◌, arith}
 use Rattle.std.proofs.lemmas.List.{drop_more, drop_all}
 use Rattle.ordered.specs.Insert.{insert_into}
 use Rattle.game.specs.declared.Member.{Member}
 use Rattle.game.specs.Members.{member_le}
 use Rattle.game.specs.Rows.{put_in}
 use Rattle.book.specs.declared.Refusal.{Refusal}
-use Rattle.book.specs.declared.Refusal.TheVariants.{TooManyMembers}
 use Rattle.book.specs.declared.width.Members.{Members}
 use Rattle.book.specs.Widths.{twelve, fitted, Holds}
 use Rattle.book.proofs.Inserting.{fits, too_many, fitted_ok, fitted_err, inserted_grows}

@@ -10,16 +10,16 @@ use Rattle.game.specs.declared.Line.TheVariants.{Enter, Join}
 use Rattle.game.specs.Members.{AttackRow}
 use Rattle.game.specs.Systems.{ExactlyWhen}
 use Rattle.game.specs.Game.{Side, by_station, by_manual, side_of, of_attacker, playable, is_must}
-use Rattle.game.specs.Rows.{entered, Joins, CalledFor}
+use Rattle.game.specs.Rows.{entered, CalledFor}
 use Rattle.game.specs.Computed.{any_of, called_for, joined}
-use Rattle.game.proofs.Gathering.{some_same, some_is_not_none}
+use Rattle.game.proofs.Gathering.{some_is_not_none}
 use Rattle.game.proofs.Testing.{called_for_means, called_for_shown, join_computed, computed_joins}
 use Rattle.book.specs.declared.Refusal.{Refusal}
 use Rattle.book.specs.declared.Refusal.TheVariants.{NoSuchAttack, HeadNotCalledFor, TooManyMembers, RowAlreadyHeld, NoRowFree, RowNotHeld, RowsDoNotJoin, RowsDoNotFit}
 use Rattle.book.specs.Offers.{and_then, row_at, Attempt, by_station_rule, by_manual_rule, by_side, attempt, row_eq, entered_row, joined_row, join_of, line_row, attempt_called, line_called, offer}
 use Rattle.book.specs.Rulings.{head_of_attack, Makes, Called, MakesNothing, IsEnter, RowMissing, RowsThere, Ruled, OffersByExample}
 use Rattle.book.proofs.Equals.{any_same_means, any_same_shown, none_same_means}
-use Rattle.book.proofs.Tested.{ok_same, err_is_not_ok}
+use Rattle.book.proofs.Tested.{err_is_not_ok}
 
 -- a number that no row has, and one that a row has
 no_such_row : (rows : List AttackRow) (i : ℕ) → row_at rows i ≡ None → length rows ≤ i

@@ -1,5 +1,5 @@
 -- The test for equal rows says whether rows are equal.
-use Rattle.std.proofs.Common.{◌≡◌, Bool, true, false, ◌&&◌, List, [], ◌∷◌, Decides, sym, refl, ap, ◌∙◌, subst}
+use Rattle.std.proofs.Common.{◌≡◌, Bool, true, false, List, [], ◌∷◌, Decides, sym, refl, subst}
 use Rattle.std.proofs.lemmas.Bool.{and_parts, and_from, false≢true}
 use Rattle.game.specs.declared.Member.{Member}
 use Rattle.game.specs.Members.{AttackRow, member_le}

@@ -1,16 +1,15 @@
 -- The lines of a book, offered to a second one in memory of its own.
-use Rattle.std.proofs.Common.{◌≡◌, ℕ, ◌+◌, ◌≤◌, true, ltb, List, [], ◌∷◌, ◌++◌, length, set, Ok, Err, Option, Result, sym, refl, ap, ◌∙◌, subst, arith}
+use Rattle.std.proofs.Common.{◌≡◌, ℕ, ◌+◌, ◌≤◌, ltb, List, [], ◌∷◌, length, set, Ok, Err, Option, Result, sym, refl, ap, ◌∙◌, arith}
 use Rattle.std.proofs.lemmas.Bool.{ltb-true}
 use Rattle.profile.specs.declared.Kind.{Kind}
 use Rattle.profile.specs.declared.Rule.{Rule}
 use Rattle.game.specs.declared.Head.{Head}
 use Rattle.game.specs.declared.Line.{Line}
 use Rattle.game.specs.declared.Row.{Row}
-use Rattle.game.specs.Members.{AttackRow}
 use Rattle.book.specs.declared.Refusal.{Refusal}
 use Rattle.book.specs.declared.state.Draft.{Draft}
 use Rattle.book.specs.Offers.{and_then, usable, held_rows, said, offer, written, lines, accept, replay, Built}
-use Rattle.book.specs.Drafts.{empty_draft, draft_offer, rows_after, draft_after}
+use Rattle.book.specs.Drafts.{empty_draft, draft_offer}
 use Rattle.book.specs.ByContract.{AllAccepted, SecondBook}
 use Rattle.book.proofs.Lending.{held_long, held_set, usable_set}
 use Rattle.book.proofs.Tested.{ok_same, err_is_not_ok, taken}

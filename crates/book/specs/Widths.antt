@@ -1,5 +1,5 @@
 -- At most twelve members in twelve places.
-use Rattle.std.specs.Prelude.{◌≡◌, ℕ, ◌-◌, ◌≤◌, cond, List, ◌++◌, length, replicate, Some, None, Ok, Err, Option, Result, nat_le}
+use Rattle.std.specs.Prelude.{◌≡◌, ◌-◌, ◌≤◌, cond, List, ◌++◌, length, replicate, Some, None, Ok, Err, Option, Result, nat_le}
 use Rattle.game.specs.declared.Member.{Member}
 use Rattle.game.specs.Members.{AttackRow}
 use Rattle.book.specs.declared.Refusal.{Refusal}

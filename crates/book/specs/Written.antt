@@ -1,5 +1,5 @@
 -- Rows written with the line that made them, or a refusal.
-use Rattle.std.specs.Prelude.{ℕ, Bool, cond, List, length, Some, None, Ok, Err, Option, Result, nat_le}
+use Rattle.std.specs.Prelude.{Bool, cond, List, length, Some, None, Ok, Err, Option, Result, nat_le}
 use Rattle.game.specs.declared.Head.{Head}
 use Rattle.game.specs.declared.Line.{Line}
 use Rattle.game.specs.declared.Row.{Row}

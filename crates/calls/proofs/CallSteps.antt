@@ -3,22 +3,22 @@ use Rattle.std.proofs.Common.{◌≡◌, ℕ, zero, suc, ◌+◌, ◌-◌, ◌<�
 use Rattle.std.proofs.lemmas.List.{map-append}
 use Rattle.std.proofs.lemmas.Bool.{cond-true, cond-false, cases_Bool}
 use Rattle.std.specs.Str.{bytes_eq}
-use Rattle.words.specs.declared.fault.Fault.{Fault}
-use Rattle.words.specs.declared.fault.WordFault.{WordFault}
-use Rattle.words.specs.declared.fault.WordCause.TheVariants.{WordTooLong}
-use Rattle.words.specs.declared.words.Due.{Due}
-use Rattle.words.specs.declared.words.Word.{Word}
-use Rattle.words.specs.declared.reader.Reader.{Reader}
-use Rattle.words.specs.declared.words.Due.TheVariants.{Keyword, Number}
-use Rattle.words.specs.Faults.{place_at, word_fault, word_fault_in}
-use Rattle.words.specs.Words.{is_blank, Rest, Step, Spelled, run_end, cut_at, found, next_from, next_word, text_end, rest_of, spelled, seen}
-use Rattle.words.specs.Sections.{and_then, there, word_due, in_range, plain_number}
-use Rattle.words.proofs.Spacing.{impossible, run_some}
-use Rattle.words.proofs.Dues.{then_ok, then_is, cond_ok, ok_same}
+use Rattle.text.specs.declared.fault.Fault.{Fault}
+use Rattle.text.specs.declared.fault.WordFault.{WordFault}
+use Rattle.text.specs.declared.fault.WordCause.TheVariants.{WordTooLong}
+use Rattle.text.specs.declared.words.Due.{Due}
+use Rattle.text.specs.declared.words.Word.{Word}
+use Rattle.text.specs.declared.reader.Reader.{Reader}
+use Rattle.text.specs.declared.words.Due.TheVariants.{Keyword, Number}
+use Rattle.text.specs.Faults.{place_at, word_fault, word_fault_in}
+use Rattle.text.specs.Words.{is_blank, Rest, Step, Spelled, run_end, cut_at, found, next_from, next_word, text_end, rest_of, spelled, seen}
+use Rattle.text.specs.Sections.{and_then, there, word_due, in_range, plain_number}
+use Rattle.text.proofs.Spacing.{impossible, run_some}
+use Rattle.text.proofs.Dues.{then_ok, then_is, cond_ok, ok_same}
 use Rattle.book.specs.declared.run.Call.{Call}
 use Rattle.book.specs.declared.run.Call.TheVariants as call
 use Rattle.book.specs.declared.run.Turn.{Turn}
-use Rattle.book.specs.Turns.{to-be-made}
+use Rattle.book.specs.Turns.{to_be_made}
 use Rattle.calls.specs.Calls.{read_operand, read_enter, read_join, read_call, call_or_end, more_calls, all_calls, calls_of, AllToBeMade}
 
 -- what the reader told, as what is next in the text
@@ -121,23 +121,23 @@ none_so_far from =
 pub one_call : (k : ℕ) (cs : List Call) (s : Rest) (w : Step Spelled) (c : Step Call) → next_word Keyword s ≡ Ok (Some w) → read_call w ≡ Ok c → more_calls (suc k) cs s ≡ more_calls k (cs ++ c.value ∷ []) c.rest
 one_call k cs s w c n h = ap (call_or_end (more_calls k) cs) n ∙ then_is _ h
 
-pub more_so_far : (from : Rest) (ts : List Turn) (s : Rest) (w : Step Spelled) (c : Step Call) → next_word Keyword s ≡ Ok (Some w) → read_call w ≡ Ok c → SoFar from ts s → SoFar from (ts ++ to-be-made c.value ∷ []) c.rest
+pub more_so_far : (from : Rest) (ts : List Turn) (s : Rest) (w : Step Spelled) (c : Step Call) → next_word Keyword s ≡ Ok (Some w) → read_call w ≡ Ok c → SoFar from ts s → SoFar from (ts ++ to_be_made c.value ∷ []) c.rest
 more_so_far from ts s w c n h so =
     let l = next_shrinks Keyword s.bytes s.at w n in
     let m = call_shrinks w c h in
     let room = so.room in
-    let longer : length (ts ++ to-be-made c.value ∷ []) ≡ length ts + 1 = length-append ts (to-be-made c.value ∷ []) in
-    let fuel : length from.bytes - length ts ≡ suc (length from.bytes - length (ts ++ to-be-made c.value ∷ [])) = omega arith in
-    let calls : calls_of (ts ++ to-be-made c.value ∷ []) ≡ calls_of ts ++ c.value ∷ [] = map-append (λ (t : Turn). t.call) ts (to-be-made c.value ∷ []) in
+    let longer : length (ts ++ to_be_made c.value ∷ []) ≡ length ts + 1 = length-append ts (to_be_made c.value ∷ []) in
+    let fuel : length from.bytes - length ts ≡ suc (length from.bytes - length (ts ++ to_be_made c.value ∷ [])) = omega arith in
+    let calls : calls_of (ts ++ to_be_made c.value ∷ []) ≡ calls_of ts ++ c.value ∷ [] = map-append (λ (t : Turn). t.call) ts (to_be_made c.value ∷ []) in
     record {
       same =
-          ap (λ (cs : List Call). more_calls (length from.bytes - length (ts ++ to-be-made c.value ∷ [])) cs c.rest) calls ∙
-          sym (one_call (length from.bytes - length (ts ++ to-be-made c.value ∷ [])) (calls_of ts) s w c n h) ∙
+          ap (λ (cs : List Call). more_calls (length from.bytes - length (ts ++ to_be_made c.value ∷ [])) cs c.rest) calls ∙
+          sym (one_call (length from.bytes - length (ts ++ to_be_made c.value ∷ [])) (calls_of ts) s w c n h) ∙
           ap (λ k. more_calls k (calls_of ts) s) (sym fuel) ∙ so.same;
       room = omega arith;
       unmade =
-          ap (λ (l : List Turn). l ++ to-be-made c.value ∷ []) so.unmade ∙
-          sym (map-append to-be-made (calls_of ts) (c.value ∷ [])) ∙ ap (map to-be-made) (sym calls);
+          ap (λ (l : List Turn). l ++ to_be_made c.value ∷ []) so.unmade ∙
+          sym (map-append to_be_made (calls_of ts) (c.value ∷ [])) ∙ ap (map to_be_made) (sym calls);
     }
 
 pub ended : (k : ℕ) (cs : List Call) (s : Rest) → next_word Keyword s ≡ Ok None → more_calls k cs s ≡ Ok cs

@@ -2,14 +2,14 @@
 use Rattle.std.proofs.Common.{◌≡◌, ℕ, ◌-◌, ◌≤◌, List, [], ◌++◌, map, take, IfOk, Ok, Err, codes, Result, sym, ap, ◌∙◌, subst, arith}
 use Rattle.std.proofs.lemmas.List.{take-take}
 use Rattle.std.proofs.lemmas.Result.{IfOk-weaker}
-use Rattle.words.specs.declared.fault.Fault.{Fault}
+use Rattle.text.specs.declared.fault.Fault.{Fault}
 use Rattle.text.specs.ProfileText.{Reading, read_profile}
 use Rattle.game.specs.declared.Row.{Row}
 use Rattle.book.specs.declared.run.Call.{Call}
 use Rattle.book.specs.declared.run.Turn.{Turn}
 use Rattle.book.specs.declared.run.Book.{Book}
 use Rattle.book.specs.Offers.{held_rows}
-use Rattle.book.specs.Turns.{to-be-made, held_of}
+use Rattle.book.specs.Turns.{to_be_made, held_of}
 use Rattle.calls.specs.Printing.{turns_text, rows_text}
 use Rattle.calls.specs.Judging.{lent_rows, Guaranteed, Ran, refused_text, ManualTold, StationTold, Told}
 
@@ -20,13 +20,13 @@ told_is bytes mid none turns rows n book nothing first then same few =
     then ∙ ap (λ (l : List ℕ). l ++ rows_text (take (n - 0) rows)) (first ∙ ap (λ (l : List ℕ). l ++ turns_text turns) nothing) ∙
     ap (λ (l : List Row). turns_text turns ++ rows_text l) (ap (λ k. take k rows) count ∙ sym (take-take (held_of book) 1024 rows few))
 
-pub has_run : (station manual : Reading) (lend : ℕ) (calls : List Call) (bytes : List ℕ) (given turns : List Turn) (was rows : List Row) (book : Book) → given ≡ map to-be-made calls → was ≡ lent_rows lend → Guaranteed station manual given turns was book rows → bytes ≡ turns_text turns ++ rows_text (held_rows rows (held_of book)) → Ran station manual lend calls bytes
+pub has_run : (station manual : Reading) (lend : ℕ) (calls : List Call) (bytes : List ℕ) (given turns : List Turn) (was rows : List Row) (book : Book) → given ≡ map to_be_made calls → was ≡ lent_rows lend → Guaranteed station manual given turns was book rows → bytes ≡ turns_text turns ++ rows_text (held_rows rows (held_of book)) → Ran station manual lend calls bytes
 has_run station manual lend calls bytes given turns was rows book fresh blank g told = record {
   turns = turns;
   book = book;
   rows = rows;
   guarantee =
-      subst (λ (w : List Row). Guaranteed station manual (map to-be-made calls) turns w book rows) blank
+      subst (λ (w : List Row). Guaranteed station manual (map to_be_made calls) turns w book rows) blank
       (subst (λ (l : List Turn). Guaranteed station manual l turns was book rows) fresh g);
   told = told;
 }

@@ -4,7 +4,7 @@ use Rattle.std.proofs.lemmas.List.{append-nil, at_drop_more, at_drop_all, take_a
 use Rattle.text.specs.declared.write.TooFewBytes.{TooFewBytes}
 use Rattle.text.specs.Report.{line_end}
 use Rattle.text.specs.Writing.{write_answer, write_after}
-use Rattle.words.proofs.Spacing.{impossible}
+use Rattle.text.proofs.Spacing.{impossible}
 use Rattle.game.specs.declared.Line.TheVariants as line
 use Rattle.game.specs.declared.Row.{Row}
 use Rattle.book.specs.declared.run.Turn.{Turn}

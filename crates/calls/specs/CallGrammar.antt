@@ -1,7 +1,7 @@
 -- The grammar of texts of calls in its own words: which texts say what. A text is its words with blanks between them,
 -- and the words spell out how many rows are lent and the calls, one after the other.
 use Rattle.std.specs.Prelude.{◌≡◌, ℕ, ◌≤◌, List, [], ◌∷◌, ◌++◌, length, Ok, Err, vec_items, codes, decimal, Result}
-use Rattle.words.specs.Spaces.{Spaced}
+use Rattle.text.specs.Grammar.{Spaced}
 use Rattle.book.specs.declared.run.Call.{Call}
 use Rattle.book.specs.declared.run.Call.TheVariants as call
 use Rattle.calls.specs.declared.reading.Script.{Script}

@@ -2,18 +2,18 @@
 use Rattle.std.specs.Prelude.{◌≡◌, ℕ, zero, suc, cond, List, [], ◌∷◌, ◌++◌, map, length, Some, None, Ok, Err, vec_items, codes, Option, Result}
 use Rattle.std.specs.Global.{Vec}
 use Rattle.std.specs.Str.{bytes_eq}
-use Rattle.words.specs.declared.fault.Fault.{Fault}
-use Rattle.words.specs.declared.fault.WordFault.{WordFault}
-use Rattle.words.specs.declared.fault.SectionCause.TheVariants.{WordNotDue}
-use Rattle.words.specs.declared.words.Due.TheVariants.{Keyword}
-use Rattle.words.specs.Faults.{word_fault_in, section_fault}
-use Rattle.words.specs.Words.{Rest, Step, Spelled, begun, length_judged, next_word}
-use Rattle.words.specs.Sections.{and_then, read_keyword, read_number}
+use Rattle.text.specs.declared.fault.Fault.{Fault}
+use Rattle.text.specs.declared.fault.WordFault.{WordFault}
+use Rattle.text.specs.declared.fault.SectionCause.TheVariants.{WordNotDue}
+use Rattle.text.specs.declared.words.Due.TheVariants.{Keyword}
+use Rattle.text.specs.Faults.{word_fault_in, section_fault}
+use Rattle.text.specs.Words.{Rest, Step, Spelled, begun, length_judged, next_word}
+use Rattle.text.specs.Sections.{and_then, read_keyword, read_number}
 use Rattle.text.specs.ProfileText.{judged}
 use Rattle.book.specs.declared.run.Call.{Call}
 use Rattle.book.specs.declared.run.Call.TheVariants as call
 use Rattle.book.specs.declared.run.Turn.{Turn}
-use Rattle.book.specs.Turns.{to-be-made}
+use Rattle.book.specs.Turns.{to_be_made}
 use Rattle.calls.specs.declared.reading.Script.{Script}
 use Rattle.calls.specs.declared.reading.Unread.{Unread}
 use Rattle.calls.specs.declared.reading.Unread.TheVariants.{Refused, NoMemory}
@@ -80,7 +80,7 @@ calls_of = map (λ (t : Turn). t.call)
 
 -- turns whose calls are still to be made
 abbrev pub AllToBeMade : List Turn → Type 0
-AllToBeMade ts = ts ≡ map to-be-made (calls_of ts)
+AllToBeMade ts = ts ≡ map to_be_made (calls_of ts)
 
 abbrev pub CallsRead : Rest → Result (Vec Turn) Unread → Type 0
 CallsRead s (Ok turns) = (all_calls s ≡ Ok (calls_of (vec_items turns))) × AllToBeMade (vec_items turns)

@@ -2,7 +2,7 @@
 use Rattle.std.specs.Prelude.{◌≡◌, ℕ, false, List, ◌++◌, map, replicate, Some, Ok, Err, codes, Option, Result}
 use Rattle.profile.specs.declared.Rule.{Rule}
 use Rattle.profile.specs.Kinds.{event_kind}
-use Rattle.words.specs.declared.fault.Fault.{Fault}
+use Rattle.text.specs.declared.fault.Fault.{Fault}
 use Rattle.text.specs.ProfileText.{Reading, read_profile}
 use Rattle.text.specs.Report.{line_end, refusal_line}
 use Rattle.game.specs.declared.Row.{Row}
@@ -12,8 +12,9 @@ use Rattle.book.specs.declared.run.Call.{Call}
 use Rattle.book.specs.declared.run.Turn.{Turn}
 use Rattle.book.specs.declared.run.Book.{Book}
 use Rattle.book.specs.Offers.{usable, held_rows}
-use Rattle.book.specs.Turns.{to-be-made, held_of}
+use Rattle.book.specs.Turns.{to_be_made, held_of}
 use Rattle.book.specs.Guarantee.{Guarantee}
+use Rattle.book.specs.ByContract.{GuaranteeByContract}
 use Rattle.calls.specs.Calls.{read_calls}
 use Rattle.calls.specs.Printing.{turns_text, rows_text}
 
@@ -28,7 +29,8 @@ lent_rows n = replicate n blank_row
 -- what is guaranteed of turns that were given to a new book over some rows: the turns, the book and the rows afterwards
 abbrev pub Guaranteed : Reading → Reading → List Turn → List Turn → List Row → Book → List Row → Type 0
 Guaranteed station manual given turns was book rows =
-    Guarantee event_kind (slots_of station) (slots_of manual) (head_of_starts station.start manual.start) (usable was) false 0 given turns was book rows
+    Guarantee event_kind (slots_of station) (slots_of manual) (head_of_starts station.start manual.start) (usable was) false 0 given turns was book rows ×
+    GuaranteeByContract event_kind (slots_of station) (slots_of manual) (head_of_starts station.start manual.start) (usable was) false 0 given turns was book rows
 
 -- The calls were made on a new book over blank rows, the guarantee holds of what came of them, and the bytes tell
 -- the answers and the held rows.
@@ -36,7 +38,7 @@ pub record Ran (station manual : Reading) (lend : ℕ) (calls : List Call) (byte
   pub turns : List Turn
   pub book : Book
   pub rows : List Row
-  pub guarantee : Guaranteed station manual (map to-be-made calls) turns (lent_rows lend) book rows
+  pub guarantee : Guaranteed station manual (map to_be_made calls) turns (lent_rows lend) book rows
   pub told : bytes ≡ turns_text turns ++ rows_text (held_rows rows (held_of book))
 
 -- a refused text: which it is, and its fault

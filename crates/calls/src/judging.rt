@@ -12,8 +12,8 @@ use profile::Table;
 use std::alloc::{AllocError, Global};
 use std::error::Error;
 use std::fmt;
+use text::fault::Fault;
 use text::profiles::read_profile;
-use words::fault::Fault;
 
 // There is no memory for what is to be printed.
 #[derive(Clone, Copy, Debug)]

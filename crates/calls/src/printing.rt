@@ -6,25 +6,26 @@ ghost use Rattle.calls.specs.Printing.{answer_line, turns_text, line_text, rows_
 use book::run::{Answer, Turn};
 use game::{Line, Row};
 use std::{fmt, str};
+use text::fault::Fault;
 use text::report::write_fault;
-use words::fault::Fault;
 
 // The line of an answer.
 fn put_answer(out: &mut String, answer: Answer) -> fmt::Result
     ensures { OnOk result (string_bytes out.new ≡ string_bytes out.old ++ answer_line answer) }
 {
     match answer {
-        Answer::Row(k) => writeln!(out, "row {k}"),
+        Answer::Row(k) => writeln!(out, "row {k}")?,
         Answer::Refused(why) => {
             let n = why.number();
-            writeln!(out, "refusal {n}")
+            writeln!(out, "refusal {n}")?
         }
-        Answer::Completed(k) => writeln!(out, "completed {k}"),
-        Answer::Refuted => writeln!(out, "refuted"),
-        Answer::Undecided => writeln!(out, "undecided"),
-        Answer::Refines => writeln!(out, "refines"),
-        Answer::NotOffered => writeln!(out, "not offered"),
+        Answer::Completed(k) => writeln!(out, "completed {k}")?,
+        Answer::Refuted => writeln!(out, "refuted")?,
+        Answer::Undecided => writeln!(out, "undecided")?,
+        Answer::Refines => writeln!(out, "refines")?,
+        Answer::NotOffered => writeln!(out, "not offered")?,
     }
+    Ok(())
 }
 
 // A line for each call.
@@ -47,9 +48,10 @@ fn put_line(out: &mut String, line: Line) -> fmt::Result
             slot,
             state,
             symbol,
-        } => writeln!(out, "enter {side} {slot} {state} {symbol}"),
-        Line::Join { first, second } => writeln!(out, "join {first} {second}"),
+        } => writeln!(out, "enter {side} {slot} {state} {symbol}")?,
+        Line::Join { first, second } => writeln!(out, "join {first} {second}")?,
     }
+    Ok(())
 }
 
 // How many rows there are, and the line that made each.
@@ -75,5 +77,6 @@ pub fn put_fault(out: &mut String, fault: &Fault) -> fmt::Result
     let Ok(line) = str::from_utf8(&lent[0..n]) else {
         return Err(fmt::Error);
     };
-    write!(out, "{line}")
+    write!(out, "{line}")?;
+    Ok(())
 }

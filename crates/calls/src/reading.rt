@@ -1,18 +1,18 @@
 // Reads a text of calls: the word `lend` and how many rows are lent, and then calls to the end of the text.
 ghost use Rattle.std.specs.Prelude.{◌≡◌};
-ghost use Rattle.words.specs.Words.{rest_of, spelled};
-ghost use Rattle.words.specs.Sections.{stepped};
-ghost use Rattle.words.specs.Faults.{word_fault_in};
-ghost use Rattle.calls.specs.declared.reading.Unread.TheVariants.{Refused as Unread-for, NoMemory as No-memory};
+ghost use Rattle.text.specs.Words.{rest_of, spelled};
+ghost use Rattle.text.specs.Sections.{stepped};
+ghost use Rattle.text.specs.Faults.{word_fault_in};
+ghost use Rattle.calls.specs.declared.reading.Unread.TheVariants.{Refused as UnreadFor, NoMemory};
 ghost use Rattle.calls.specs.Calls.{read_operand, read_enter, read_join, read_call, CallsRead, ScriptRead, TextRead};
 ghost use Rattle.calls.specs.CallGrammar.{CallsJudged, SaysOne};
 
 use book::run::{Call, Turn};
 use std::alloc::{AllocFailed, Global};
-use words::fault::{Fault, SectionCause, WordFault};
-use words::reader::Reader;
-use words::sections::{alike, keyword, number};
-use words::words::{Due, Word, judge_length};
+use text::fault::{Fault, SectionCause, WordFault};
+use text::reader::Reader;
+use text::sections::{alike, keyword, number};
+use text::words::{Due, Word, judge_length};
 
 // What a text of calls says: how many rows are lent, and the calls, which are still to be made.
 #[derive(Drop)]
@@ -31,7 +31,7 @@ pub enum Unread {
 }
 
 impl From<Fault> for Unread {
-    ghost from_gives = { λ f r. r ≡ Unread-for f };
+    ghost from_gives = { λ f r. r ≡ UnreadFor f };
 
     fn from(f: Fault) -> Unread {
         Unread::Refused(f)
@@ -39,7 +39,7 @@ impl From<Fault> for Unread {
 }
 
 impl From<WordFault> for Unread {
-    ghost from_gives = { λ f r. r ≡ Unread-for (word_fault_in f) };
+    ghost from_gives = { λ f r. r ≡ UnreadFor (word_fault_in f) };
 
     fn from(f: WordFault) -> Unread {
         Unread::Refused(f.into())
@@ -47,7 +47,7 @@ impl From<WordFault> for Unread {
 }
 
 impl<T: Drop> From<AllocFailed<T>> for Unread {
-    ghost from_gives = { λ _ r. r ≡ No-memory };
+    ghost from_gives = { λ _ r. r ≡ NoMemory };
 
     fn from(_e: AllocFailed<T>) -> Unread {
         Unread::NoMemory

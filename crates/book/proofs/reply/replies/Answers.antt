@@ -1,8 +1,8 @@
-use Rattle.std.proofs.Common.{◌≡◌, ◌<◌, ◌≤◌, [], length, ap, arith}
+use Rattle.std.proofs.Common.{◌<◌, ◌≤◌, [], length, arith}
 use Rattle.profile.specs.Kinds.{event_kind}
 use Rattle.game.specs.Rows.{leads_to, answers, gathered}
 use Rattle.book.specs.Sides.{player}
-use Rattle.book.proofs.Collecting.{collects_few, collects_more, collects_none, collects_all}
+use Rattle.book.proofs.Collecting.{collects_more, collects_none, collects_all}
 use Rattle.book.proofs.reply.replies.Goals as goal
 
 pub returns-in-Err : goal.returns-in-Err

@@ -11,14 +11,14 @@ use Rattle.calls.proofs.judging.answered.Goals as goal
 
 pub returns : goal.returns
 returns c =
-    let few : held_of c.run-book.result ≤ 1024 = omega (arith, c.run-book.ensures) in
-    has_run (reading_of c.args.station.now) (reading_of c.args.manual.now) c.args.script.lend (calls_of (vec_items c.args.script.turns)) (string_bytes c.put-rows.new.out)
-    c.as-mut-slice-2.result.now c.run-book.new.turns c.as-mut-slice.result.now c.run-book.new.rows c.run-book.result
-    (c.as-mut-slice-2.ensures.value ∙ c.requires)
-    (c.as-mut-slice.ensures.value ∙ c.in_ok-rows.ensures.items-if-clones-equal (λ y h. h) ∙ ap (replicate c.args.script.lend) c.blank.ensures)
-    c.run-book.ensures
-    (told_is _ (string_bytes c.put-turns.new.out) (string_bytes c.new-out.result) c.run-book.new.turns c.run-book.new.rows c.held.result c.run-book.result
+    let few : held_of c.run-book.result ≤ 1024 = omega (arith, c.run-book.ensures.kept.book_kept.within) in
+    has_run (reading_of c.args.station.now) (reading_of c.args.manual.now) c.args.script.lend (calls_of (vec_items c.args.script.turns)) (string_bytes c.put_rows.new.out)
+    c.as_mut_slice-2.result.now c.run-book.new.turns c.as_mut_slice.result.now c.run-book.new.rows c.run-book.result
+    (c.as_mut_slice-2.ensures.value ∙ c.requires)
+    (c.as_mut_slice.ensures.value ∙ c.in_ok-rows.ensures.items_if_clones_equal (λ y h. h) ∙ ap (replicate c.args.script.lend) c.blank.ensures)
+    (c.run-book.ensures.kept, c.run-book.ensures.by_contract)
+    (told_is _ (string_bytes c.put_turns.new.out) (string_bytes c.new-out.result) c.run-book.new.turns c.run-book.new.rows c.held.result c.run-book.result
     c.new-out.ensures.bytes
-    (c.in_ok-put-turns.ensures ∙ ap (λ (l : List Turn). string_bytes c.new-out.result ++ turns_text l) (c.as-slice.ensures.value ∙ with_items_is c.args.script.turns c.run-book.new.turns (omega (arith, c.run-book.auto.turns, c.as-mut-slice-2.ensures.len))))
-    (c.in_ok-put-rows.ensures ∙ ap (λ (l : List Row). string_bytes c.put-turns.new.out ++ rows_text (take (c.held.result - 0) l)) (c.as-slice-2.ensures.value ∙ with_items_is c.in_ok-rows.rows c.run-book.new.rows (omega (arith, c.run-book.auto.rows, c.as-mut-slice.ensures.len))))
+    (c.in_ok-put_turns.ensures ∙ ap (λ (l : List Turn). string_bytes c.new-out.result ++ turns_text l) (c.as_slice.ensures.value ∙ with_items_is c.args.script.turns c.run-book.new.turns (omega (arith, c.run-book.auto.turns, c.as_mut_slice-2.ensures.len))))
+    (c.in_ok-put_rows.ensures ∙ ap (λ (l : List Row). string_bytes c.put_turns.new.out ++ rows_text (take (c.held.result - 0) l)) (c.as_slice-2.ensures.value ∙ with_items_is c.in_ok-rows.rows c.run-book.new.rows (omega (arith, c.run-book.auto.rows, c.as_mut_slice.ensures.len))))
     c.held.ensures few)

@@ -1,5 +1,5 @@
 use Rattle.std.proofs.Common.{length, vec_items}
-use Rattle.words.specs.Words.{rest_of}
+use Rattle.text.specs.Words.{rest_of}
 use Rattle.calls.proofs.CallSteps.{SoFar}
 use Rattle.calls.proofs.reading.call_list.Given as goal
 

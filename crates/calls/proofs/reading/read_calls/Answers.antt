@@ -3,7 +3,7 @@ use Rattle.calls.proofs.reading.read_calls.Goals as goal
 
 pub returns : goal.returns
 returns c = record {
-  value = c.read-text.ensures;
-  grammar = judged_by_grammar c.args.text.now c.read-text.result c.read-text.ensures;
+  value = c.read_text.ensures;
+  grammar = judged_by_grammar c.args.text.now c.read_text.result c.read_text.ensures;
   one = says_one c.args.text.now;
 }

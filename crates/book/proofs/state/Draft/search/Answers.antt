@@ -1,4 +1,4 @@
-use Rattle.std.proofs.Common.{◌≡◌, Ok, Err}
+use Rattle.std.proofs.Common.{Ok, Err}
 use Rattle.profile.specs.Kinds.{event_kind}
 use Rattle.book.specs.declared.Refusal.TheVariants.{RowsDoNotFit}
 use Rattle.book.proofs.Searched.{completes_so, leaves_off_so}
