@@ -101,8 +101,8 @@ abbrev pub closing : AttackRow
 closing = row (head 1 1 2 3) (member 6 7 Zero ∷ [])
 
 -- their join; and thirteen members that close
-abbrev pub joined_row : AttackRow
-joined_row = row origin (member 6 7 (One (pair 4 5)) ∷ [])
+abbrev pub the_join : AttackRow
+the_join = row origin (member 6 7 (One (pair 4 5)) ∷ [])
 
 abbrev pub closing_wide : AttackRow
 closing_wide =
@@ -133,10 +133,10 @@ pub record OffersByExample : Type 0 where
   pub not_without_room : offer kinds (stay May) [] origin false [] (Enter 0 0 0 0) ≡ Err NoRowFree
   pub no_first_row : offer kinds [] [] origin true (opened ∷ []) (Join 1 0) ≡ Err RowNotHeld
   pub no_second_row : offer kinds [] [] origin true (opened ∷ []) (Join 0 1) ≡ Err RowNotHeld
-  pub a_join_keeps_the_lower_pair : offer kinds [] [] origin true (opened ∷ closing ∷ []) (Join 0 1) ≡ Ok joined_row
-  pub rows_have_their_numbers : offer kinds [] [] origin true (closing ∷ refuting_row ∷ closing ∷ opened ∷ []) (Join 3 2) ≡ Ok joined_row
+  pub a_join_keeps_the_lower_pair : offer kinds [] [] origin true (opened ∷ closing ∷ []) (Join 0 1) ≡ Ok the_join
+  pub rows_have_their_numbers : offer kinds [] [] origin true (closing ∷ refuting_row ∷ closing ∷ opened ∷ []) (Join 3 2) ≡ Ok the_join
   pub no_join_of_thirteen_members : offer kinds [] [] origin false (opened ∷ closing_wide ∷ []) (Join 0 1) ≡ Err TooManyMembers
-  pub no_join_twice : offer kinds [] [] origin false (opened ∷ closing ∷ joined_row ∷ []) (Join 0 1) ≡ Err RowAlreadyHeld
+  pub no_join_twice : offer kinds [] [] origin false (opened ∷ closing ∷ the_join ∷ []) (Join 0 1) ≡ Err RowAlreadyHeld
   pub no_join_without_room : offer kinds [] [] origin false (opened ∷ closing ∷ []) (Join 0 1) ≡ Err NoRowFree
   pub not_at_another_top : offer kinds [] [] origin true (opened ∷ row (head 1 1 2 2) (member 6 7 Zero ∷ []) ∷ []) (Join 0 1) ≡ Err RowsDoNotJoin
   pub not_with_a_pair_in_the_second : offer kinds [] [] origin true (opened ∷ row (head 1 1 2 3) (member 6 7 (One (pair 0 0)) ∷ []) ∷ []) (Join 0 1) ≡ Err RowsDoNotJoin
