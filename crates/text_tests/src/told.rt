@@ -21,10 +21,12 @@ pub(crate) fn all_told(rt: &impl Abort, table: &[(&[u8], &[u8])]) -> Result<(), 
     for i in 0..table.len() {
         let (text, expected) = table[i];
         let mut lent = [0u8; 4096];
-        let n = lint(text, &mut lent)?;
-        match lent.get(0..n) {
-            Some(report) => assert_eq!(rt; report, expected, "line {i}"),
-            None => return Err(Fail::new("a report past the lent bytes")),
+        let told = lint(text, &mut lent);
+        assert!(rt; told.is_ok(), "line {i}: too few bytes are lent");
+        let n = told?;
+        assert!(rt; n <= 4096, "line {i}: a report past the lent bytes");
+        if let Some(report) = lent.get(0..n) {
+            assert_eq!(rt; report, expected, "line {i}");
         }
     }
     Ok(())
