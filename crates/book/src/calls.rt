@@ -1,4 +1,4 @@
-// The calls on a book, with the rows lent to each call.
+// The calls on a draft and on a completed book, with the rows lent to each call.
 ghost use Rattle.std.specs.Prelude.{◌≡◌, ◌+◌, ◌<◌, List, Option, slice_set};
 ghost use Rattle.profile.specs.declared.Rule.{Rule};
 ghost use Rattle.profile.specs.Kinds.{event_kind};
@@ -120,7 +120,8 @@ impl Draft {
 }
 
 impl Completed {
-    // Whether the held rows say that the starts are refuted. If not, the station refines the manual.
+    // Whether the held rows say that the starts are refuted; if not, it tells refines. That is a refinement where the rows
+    // lent are those that the search completed, all of them, and the profiles are the same.
     pub fn verdict(&self, rows: &[Row]) -> Verdict
         ensures { result ≡ verdict_of self.now rows.now }
     {

@@ -34,7 +34,7 @@ pub enum Refusal {
     RowNotHeld,
     // The rows do not join.
     RowsDoNotJoin,
-    // The rows that are derivable do not all fit.
+    // A row is missing that has over 12 members or finds every usable row taken.
     RowsDoNotFit,
 }
 

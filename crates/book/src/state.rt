@@ -10,7 +10,8 @@ pub struct Draft {
     pub(crate) held: usize,
 }
 
-// A book that no derivable row is missing from. It cannot be copied either, and nothing can be entered in it.
+// A book that a search has completed: the same numbers, where nothing was missing from the rows lent to the search. It
+// cannot be copied either, and nothing can be entered in it.
 #[derive(Drop)]
 pub struct Completed {
     pub(crate) start: Head,

@@ -1,13 +1,14 @@
--- The tests for equal pairs above a stack and for equal members, and that they tell equality.
+-- The tests for equal heads, equal pairs above a stack and equal members, and that they tell equality.
 use Rattle.std.specs.Prelude.{◌≡◌, Bool, true, false, ◌&&◌, Decides, refl}
 use Rattle.std.proofs.Common.{ap, subst}
 use Rattle.std.specs.Cmp.{IsPartialEquivalence, partial_equiv_from_equiv, decided}
 use Rattle.std.proofs.lemmas.Bool.{and_parts, and_from, eqb-true, eq-eqb, false≢true}
 use Rattle.game.specs.declared.Pair.{Pair}
+use Rattle.game.specs.declared.Head.{Head}
 use Rattle.game.specs.declared.Pairs.{Pairs}
 use Rattle.game.specs.declared.Pairs.TheVariants.{Zero, One, Two}
 use Rattle.game.specs.declared.Member.{Member}
-use Rattle.game.specs.Computed.{pair_eq}
+use Rattle.game.specs.Computed.{pair_eq, head_eq}
 
 abbrev pub pairs_eq : Pairs → Pairs → Bool
 pairs_eq Zero Zero = true
@@ -32,6 +33,20 @@ pair_means p q e =
 
 pair_shown : (p : Pair) → pair_eq p p ≡ true
 pair_shown p = and_from _ _ (eq-eqb p.station p.station refl) (eq-eqb p.manual p.manual refl)
+
+head_means : (h k : Head) → head_eq h k ≡ true → h ≡ k
+head_means h k e =
+    let a = and_parts _ _ e in
+    let s = pair_means h.states k.states a.0 in
+    let t = pair_means h.symbols k.symbols a.1 in
+    λ i. record { states = s i; symbols = t i }
+
+pub head_eq_decides : (h k : Head) → Decides (head_eq h k) (h ≡ k)
+head_eq_decides h k =
+    (head_means h k, λ e. subst (λ (z : Head). head_eq h z ≡ true) e (and_from _ _ (pair_shown h.states) (pair_shown h.symbols)))
+
+pub head_eq_laws : IsPartialEquivalence head_eq
+head_eq_laws = partial_equiv_from_equiv (decided head_eq head_eq_decides)
 
 pairs_mean : (x y : Pairs) → pairs_eq x y ≡ true → x ≡ y
 pairs_mean Zero Zero e = refl

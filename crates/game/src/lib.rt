@@ -2,12 +2,10 @@
 // the plain types that rows are made of.
 #![tactic(auto)]
 
-ghost use Rattle.std.specs.Prelude.{◌≡◌, ◌&&◌, min, Decides};
-ghost use Rattle.std.specs.Ordering.{eq_of_both, on};
+ghost use Rattle.std.specs.Prelude.{◌≡◌, min, Decides};
 ghost use Rattle.game.specs.Members.{top_of, below_top, member_numbers, member_le, members_of, row_of, blank_row};
-ghost use Rattle.std.specs.Cmp.Rules.{comparing};
-ghost use Rattle.std.proofs.Common.{rules};
-ghost use Rattle.game.specs.Sameness.{same_member, same_member_laws};
+ghost use Rattle.game.specs.Computed.{head_eq};
+ghost use Rattle.game.specs.Sameness.{head_eq_laws, same_member, same_member_laws};
 ghost use Rattle.game.specs.Order.{member_reflexive, member_antisymmetric, member_transitive, member_total};
 
 use ordered::Keyed;
@@ -32,12 +30,12 @@ pub struct Head {
 }
 
 impl PartialEq for Head {
-    ghost eq = { eq_of_both (on (λ h. h.states) ⟦<Pair as PartialEq>⟧.eq) (on (λ h. h.symbols) ⟦<Pair as PartialEq>⟧.eq) };
+    ghost eq = { head_eq };
 
-    ghost laws = { Prim.search (comparing, rules) };
+    ghost laws = { head_eq_laws };
 
     fn eq(&self, other: &Head) -> bool
-        ensures computes { result ≡ (⟦<Pair as PartialEq>⟧.eq self.now.states other.now.states && ⟦<Pair as PartialEq>⟧.eq self.now.symbols other.now.symbols) }
+        ensures computes { result ≡ head_eq self.now other.now }
         ensures decides { Decides result (self.now ≡ other.now) }
     {
         self.states == other.states && self.symbols == other.symbols
