@@ -8,9 +8,9 @@ use Rattle.profile.specs.declared.Kind.{Kind}
 use Rattle.profile.specs.declared.Kind.TheVariants.{Open, Step, Close}
 use Rattle.profile.specs.Rules.{Formed}
 use Rattle.profile.specs.Kinds.{event_kind}
-use Rattle.profile.specs.Profiles.{LawfulSlot, LawfulSlots}
+use Rattle.profile.specs.Profiles.{LawfulSlot, LawfulSlots, LawfulProfile}
 use Rattle.profile.specs.Renames.{event_there}
-use Rattle.profile.specs.Opens.{free_rule, open_slot, open_slots}
+use Rattle.profile.specs.Opens.{free_rule, open_slot, open_slots, open_start}
 
 open_at : (events : List Bool) (i : ℕ) → i < 12 → slice_index_or (open_slots events) i None ≡ open_slot events i
 open_at events i h = get_or-map-range_with_len (open_slot events) 0 12 i i None h (omega arith)
@@ -43,3 +43,6 @@ lawful_from events a (suc n) h = (free_lawful events a (omega arith), lawful_fro
 
 pub open_lawful : (events : List Bool) → LawfulSlots event_kind (open_slots events)
 open_lawful events = lawful_from events 0 12 (omega arith)
+
+pub open_profile_lawful : (events : List Bool) → LawfulProfile event_kind (open_slots events) open_start
+open_profile_lawful events = record { few = omega arith; each = open_lawful events; state = omega arith; symbol = omega arith }

@@ -1,8 +1,7 @@
 // The open profile: it stores only a set of events, and each of them may happen in state 0 on symbol 0.
 ghost use Rattle.std.specs.Prelude.{◌≡◌, length, None, slice_index_or};
 ghost use Rattle.profile.specs.Opens.{free_rule, open_slots, open_start, Opened};
-ghost use Rattle.std.proofs.Common.{arith};
-ghost use Rattle.profile.specs.OpenSlots.{open_lawful};
+ghost use Rattle.profile.specs.OpenSlots.{open_profile_lawful};
 
 use crate::entries::entry_or;
 use crate::{Mode, Profile, Rule};
@@ -68,7 +67,7 @@ impl Profile for OpenProfile {
 
     ghost origin = { λ _. open_start };
 
-    ghost lawful = { λ p. record { few = omega arith; each = open_lawful p.events; state = omega arith; symbol = omega arith } };
+    ghost lawful = { λ p. open_profile_lawful p.events };
 
     fn slots(&self) -> usize {
         self.events.len()
