@@ -12,7 +12,6 @@ pub mod Collecting
 pub mod Putting
 pub mod Copying
 pub mod Scanning
-pub mod Sameness
 pub mod Splitting
 pub mod Offering
 pub mod Drafting
