@@ -8,6 +8,10 @@ ghost use Rattle.std.specs.List.{insert};
 ghost use Rattle.ordered.specs.Insert.{place_of, sought, insert_answer, insert_after};
 ghost use Rattle.ordered.specs.Laws.{by_key, LawfulInsertion};
 
+mod held;
+
+pub use held::Held;
+
 // Elements that are ordered by a key, which may be less than the whole element.
 pub trait Keyed {
     // What elements are ordered by.
