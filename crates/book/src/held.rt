@@ -13,7 +13,7 @@ pub(crate) fn tops(m: &Member, head: Head) -> bool
     m.top() == Some(head)
 }
 
-// Whether a head is the top of a member of a row.
+// Whether a head is the top of a member of a row. By a loop: a test of a row looks through its members in turn.
 fn tops_row(row: &Row, head: Head) -> bool
     ensures { result ≡ tops_row head (row_of row.now) }
 {

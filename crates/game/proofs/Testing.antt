@@ -94,7 +94,7 @@ last_put : (x : Member) (xs : List Member) (m : Member) → last_of x (xs ++ m �
 last_put x [] m = refl
 last_put x (y ∷ ys) m = last_put y ys m
 
-members_put : (h : Head) (front : List Member) (last : Member) (j : AttackRow) → joined_members h (front ++ last ∷ []) j ≡ joined_last h front last j
+pub members_put : (h : Head) (front : List Member) (last : Member) (j : AttackRow) → joined_members h (front ++ last ∷ []) j ≡ joined_last h front last j
 members_put h [] last j = refl
 members_put h (x ∷ xs) last j = λ i. joined_last h (front_put x xs last i) (last_put x xs last i) j
 
