@@ -23,7 +23,7 @@ pub err_same : {T E : Type 0} (x y : E) → ◌≡◌ {A = Result T E} (Err x) (
 err_same x y e = cc
 
 pub ok_not_err : {T E : Type 0} (x : T) (y : E) → Ok x ≡ Err y → ⊥
-ok_not_err x y e = let z : ◌≡◌ {A = ℕ} 0 1 = cc in omega arith
+ok_not_err x y e = cc
 
 pub fitted_ok : (ms held : List Member) → fitted ms ≡ Ok held → (ms ≡ held) × (length ms ≤ 12)
 fitted_ok ms held =
@@ -66,10 +66,10 @@ module _ (m : Member) where
   found_double : (p q : Bool) (x y z : ℕ) → Err (Double x) ≡ cond p (Err (Double y)) (cond q (Ok z) (Err Full)) → p ≡ true
   found_double true q x y z e = refl
   found_double false true x y z e = absurd (ok_not_err z (Double x) (sym e))
-  found_double false false x y z e = let u : ◌≡◌ {A = ℕ} 0 1 = cc in absurd (omega arith)
+  found_double false false x y z e = cc
 
   found_full : (p q : Bool) (y z : ℕ) → Err Full ≡ cond p (Err (Double y)) (cond q (Ok z) (Err Full)) → (p ≡ false) × (q ≡ false)
-  found_full true q y z e = let u : ◌≡◌ {A = ℕ} 0 1 = cc in absurd (omega arith)
+  found_full true q y z e = cc
   found_full false true y z e = absurd (ok_not_err z Full (sym e))
   found_full false false y z e = (refl, refl)
 

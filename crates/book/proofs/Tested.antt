@@ -26,7 +26,7 @@ pub ok_same : {T E : Type 0} (x y : T) → ◌≡◌ {A = Result T E} (Ok x) (Ok
 ok_same x y e = cc
 
 pub err_is_not_ok : {T E : Type 0} (x : E) (y : T) → ◌≡◌ {A = Result T E} (Err x) (Ok y) → ⊥
-err_is_not_ok x y e = let z : ◌≡◌ {A = ℕ} 0 1 = cc in omega arith
+err_is_not_ok x y e = cc
 
 err_same : {T E : Type 0} (x y : E) → ◌≡◌ {A = Result T E} (Err y) (Err x) → x ≡ y
 err_same x y e = cc
@@ -36,14 +36,14 @@ abbrev pub NoRow : Refusal → Type 0
 NoRow e = (e ≡ NoSuchAttack) ⊎ ((e ≡ RowNotHeld) ⊎ (e ≡ RowsDoNotJoin))
 
 not_for_width : NoRow TooManyMembers → ⊥
-not_for_width (inl e) = let z : ◌≡◌ {A = ℕ} 0 1 = cc in omega arith
-not_for_width (inr (inl e)) = let z : ◌≡◌ {A = ℕ} 0 1 = cc in omega arith
-not_for_width (inr (inr e)) = let z : ◌≡◌ {A = ℕ} 0 1 = cc in omega arith
+not_for_width (inl e) = cc
+not_for_width (inr (inl e)) = cc
+not_for_width (inr (inr e)) = cc
 
 not_for_room : NoRow NoRowFree → ⊥
-not_for_room (inl e) = let z : ◌≡◌ {A = ℕ} 0 1 = cc in omega arith
-not_for_room (inr (inl e)) = let z : ◌≡◌ {A = ℕ} 0 1 = cc in omega arith
-not_for_room (inr (inr e)) = let z : ◌≡◌ {A = ℕ} 0 1 = cc in omega arith
+not_for_room (inl e) = cc
+not_for_room (inr (inl e)) = cc
+not_for_room (inr (inr e)) = cc
 
 -- the four tests of a row, one after the other
 abbrev tests : Bool → Bool → Bool → Bool → AttackRow → Result AttackRow Refusal
@@ -58,18 +58,18 @@ tests_ok true false c d row out e = absurd (err_is_not_ok TooManyMembers out e)
 tests_ok false b c d row out e = absurd (err_is_not_ok HeadNotCalledFor out e)
 
 tests_wide : (a b c d : Bool) (row : AttackRow) → tests a b c d row ≡ Err TooManyMembers → (a ≡ true) × (b ≡ false)
-tests_wide true true true d row e = let z : ◌≡◌ {A = ℕ} 0 1 = cc in absurd (omega arith)
+tests_wide true true true d row e = cc
 tests_wide true true false true row e = absurd (err_is_not_ok TooManyMembers row (sym e))
-tests_wide true true false false row e = let z : ◌≡◌ {A = ℕ} 0 1 = cc in absurd (omega arith)
+tests_wide true true false false row e = cc
 tests_wide true false c d row e = (refl, refl)
-tests_wide false b c d row e = let z : ◌≡◌ {A = ℕ} 0 1 = cc in absurd (omega arith)
+tests_wide false b c d row e = cc
 
 tests_full : (a b c d : Bool) (row : AttackRow) → tests a b c d row ≡ Err NoRowFree → (a ≡ true) × (b ≡ true) × (c ≡ false) × (d ≡ false)
-tests_full true true true d row e = let z : ◌≡◌ {A = ℕ} 0 1 = cc in absurd (omega arith)
+tests_full true true true d row e = cc
 tests_full true true false true row e = absurd (err_is_not_ok NoRowFree row (sym e))
 tests_full true true false false row e = (refl, refl, refl, refl)
-tests_full true false c d row e = let z : ◌≡◌ {A = ℕ} 0 1 = cc in absurd (omega arith)
-tests_full false b c d row e = let z : ◌≡◌ {A = ℕ} 0 1 = cc in absurd (omega arith)
+tests_full true false c d row e = cc
+tests_full false b c d row e = cc
 
 tests_idle : (a b c d : Bool) (row : AttackRow) → Idle (tests a b c d row) → a ≡ true → c ≡ true
 tests_idle true true true d row i e = refl

@@ -16,16 +16,16 @@ numbered s x = pair_count x ∷ s.station ∷ s.manual ∷ symbol_numbers x
 
 same_symbols : (s t : Pair) (x y : Pairs) → numbered s x ≡ numbered t y → x ≡ y
 same_symbols s t Zero Zero e = refl
-same_symbols s t Zero (One q) e = let z : ◌≡◌ {A = ℕ} 0 1 = cc in absurd (omega arith)
-same_symbols s t Zero (Two q v) e = let z : ◌≡◌ {A = ℕ} 0 2 = cc in absurd (omega arith)
-same_symbols s t (One p) Zero e = let z : ◌≡◌ {A = ℕ} 1 0 = cc in absurd (omega arith)
+same_symbols s t Zero (One q) e = cc
+same_symbols s t Zero (Two q v) e = cc
+same_symbols s t (One p) Zero e = cc
 same_symbols s t (One p) (One q) e =
     let a : p.station ≡ q.station = cc in
     let b : p.manual ≡ q.manual = cc in
     λ i. One (record { station = a i; manual = b i })
-same_symbols s t (One p) (Two q v) e = let z : ◌≡◌ {A = ℕ} 1 2 = cc in absurd (omega arith)
-same_symbols s t (Two p u) Zero e = let z : ◌≡◌ {A = ℕ} 2 0 = cc in absurd (omega arith)
-same_symbols s t (Two p u) (One q) e = let z : ◌≡◌ {A = ℕ} 2 1 = cc in absurd (omega arith)
+same_symbols s t (One p) (Two q v) e = cc
+same_symbols s t (Two p u) Zero e = cc
+same_symbols s t (Two p u) (One q) e = cc
 same_symbols s t (Two p u) (Two q v) e =
     let a : p.station ≡ q.station = cc in
     let b : p.manual ≡ q.manual = cc in
