@@ -61,24 +61,18 @@ module _ (kinds : ℕ → Option Kind) (station manual : List (Option Rule)) whe
           ltb-true d.held (usable lent)
           (found_free d.start (ltb d.held (usable lent)) (said (held_rows lent d.held)) line row_is.0 row_is.1)
 
-      pub told_number : (n : ℕ) → n ≡ d.held → Ok n ≡ told d offered
-      told_number n e = ap (λ (k : ℕ). Ok k) e ∙ sym (ap (told d) row_is.1)
+      -- the number is told, and the draft holds one row more
+      pub accepted : (n : ℕ) (is : List Row) (after : Draft) → n ≡ d.held → is ≡ set lent d.held w → after ≡ record { start = d.start; held = d.held + 1 } →
+          (Ok n ≡ told d offered) × (is ≡ rows_after d lent line offered) × (after ≡ draft_after d offered)
+      accepted n is after e f g = (
+        ap (λ (k : ℕ). Ok k) e ∙ sym (ap (told d) row_is.1),
+        f ∙ ap (set lent d.held) row_is.2 ∙ sym (ap (rows_after d lent line) row_is.1),
+        g ∙ sym (ap (draft_after d) row_is.1),
+      )
 
-      pub one_row_more : (after : List Row) → after ≡ set lent d.held w → after ≡ rows_after d lent line offered
-      one_row_more after e = e ∙ ap (set lent d.held) row_is.2 ∙ sym (ap (rows_after d lent line) row_is.1)
-
-      pub one_held_more : (after : Draft) → after ≡ record { start = d.start; held = d.held + 1 } → after ≡ draft_after d offered
-      one_held_more after e = e ∙ sym (ap (draft_after d) row_is.1)
-
-    module _ (why : Refusal) (made : Err why ≡ and_then (offer kinds station manual d.start free (said held) line) (λ (x : AttackRow). Ok (written x line))) where
-      refusal_is : offered ≡ Err why
-      refusal_is = from_err line offered why (read (Err why) made)
-
-      pub told_refusal : Err why ≡ told d offered
-      told_refusal = sym (ap (told d) refusal_is)
-
-      pub same_rows : lent ≡ rows_after d lent line offered
-      same_rows = sym (ap (rows_after d lent line) refusal_is)
-
-      pub same_draft : d ≡ draft_after d offered
-      same_draft = sym (ap (draft_after d) refusal_is)
+    -- the refusal is told, and all is as it was
+    pub refused : (why : Refusal) → Err why ≡ and_then (offer kinds station manual d.start free (said held) line) (λ (x : AttackRow). Ok (written x line)) →
+        (Err why ≡ told d offered) × (lent ≡ rows_after d lent line offered) × (d ≡ draft_after d offered)
+    refused why made =
+        let e = from_err line offered why (read (Err why) made) in
+        (sym (ap (told d) e), sym (ap (rows_after d lent line) e), sym (ap (draft_after d) e))

@@ -1,5 +1,7 @@
 -- What the code makes of a line is what the line comes to.
-use Rattle.std.proofs.Common.{◌≡◌, ℕ, zero, suc, ◌-◌, ◌<◌, ◌≤◌, min, Bool, true, false, cond, ◌&&◌, ltb, leb, List, [], ◌∷◌, ◌++◌, map, length, get_or, take, replicate, Some, None, Ok, Err, Option, Result, sym, refl, ap, ◌∙◌, arith}
+use Rattle.std.proofs.Common.{◌≡◌, ℕ, zero, suc, ◌-◌, ◌<◌, ◌≤◌, min, Bool, true, false, cond, ◌&&◌, ltb, leb, List, [], ◌∷◌, ◌++◌, map, length, get_or, take, replicate, Some, None, Ok, Err, Option, Result, Bor, sym, refl, ap, ◌∙◌, subst, arith}
+use Rattle.std.specs.Option.{ok_or}
+use Rattle.std.specs.Slice.{IsItemAt}
 use Rattle.std.proofs.lemmas.List.{take_at}
 use Rattle.std.proofs.lemmas.Bool.{cond_both, leb-true}
 use Rattle.profile.specs.declared.Kind.{Kind}
@@ -22,12 +24,12 @@ use Rattle.book.specs.Written.{headed, fitted_row, fitted_if, fitted_both, new_a
 use Rattle.book.proofs.Inserting.{ok_same, err_same, ok_not_err}
 
 -- the row with a number
-pub row_there : (rows : List Row) (i : ℕ) (d : Row) → i < length rows → row_at (said rows) i ≡ Some (row_of (get_or rows i d))
+row_there : (rows : List Row) (i : ℕ) (d : Row) → i < length rows → row_at (said rows) i ≡ Some (row_of (get_or rows i d))
 row_there [] i d h = absurd (omega arith)
 row_there (r ∷ rs) zero d h = refl
 row_there (r ∷ rs) (suc i) d h = row_there rs i d (let l : i < length rs = omega arith in l)
 
-pub row_missing : (rows : List Row) (i : ℕ) → length rows ≤ i → row_at (said rows) i ≡ None
+row_missing : (rows : List Row) (i : ℕ) → length rows ≤ i → row_at (said rows) i ≡ None
 row_missing [] i h = refl
 row_missing (r ∷ rs) zero h = absurd (omega arith)
 row_missing (r ∷ rs) (suc i) h = row_missing rs i (let l : length rs ≤ i = omega arith in l)
@@ -55,20 +57,23 @@ headed_members h line (m ∷ ms) j = headed_last h line (front_of m ms) (last_of
 pub headed_join : (i j : AttackRow) (line : Line) → headed i.head line (fitted_join (joined i j)) ≡ fitted_if (joined i j) line
 headed_join i j line = headed_members i.head line i.members j
 
--- the row of two numbers
-module _ (rows : List Row) (i j : ℕ) (d : Row) (line : Line) where
-  pub both_there : (made : Result Members Refusal) (out : Result Row Refusal) → i < length rows → j < length rows →
-      made ≡ fitted_join (joined (row_of (get_or rows i d)) (row_of (get_or rows j d))) → out ≡ headed (get_or rows i d).head line made →
-      out ≡ fitted_both (row_at (said rows) i) (row_at (said rows) j) line
-  both_there made out h k e f =
-      f ∙ ap (headed (get_or rows i d).head line) e ∙ headed_join (row_of (get_or rows i d)) (row_of (get_or rows j d)) line ∙
-      sym (λ t. fitted_both (row_there rows i d h t) (row_there rows j d k t) line)
+-- the row of two numbers, of which each is that of a held row or of none
+pub got_row : (rows : List Row) (i : ℕ) (got : Option (Bor Row)) (x : Bor Row) → IsItemAt rows i got → got ≡ Some x → row_at (said rows) i ≡ Some (row_of x.now)
+got_row rows i got x g e =
+    let t = subst (λ (o : Option (Bor Row)). IsItemAt rows i o) e g in
+    row_there rows i x.now t.3.0 ∙ ap (λ (r : Row). Some (row_of r)) (sym t.1)
 
-  pub first_missing : length rows ≤ i → Err RowNotHeld ≡ fitted_both (row_at (said rows) i) (row_at (said rows) j) line
-  first_missing h = sym (ap (λ (o : Option AttackRow). fitted_both o (row_at (said rows) j) line) (row_missing rows i h))
+pub got_none : (rows : List Row) (i : ℕ) (got : Option (Bor Row)) → IsItemAt rows i got → got ≡ None → row_at (said rows) i ≡ None
+got_none rows i got g e = row_missing rows i (subst (λ (o : Option (Bor Row)). IsItemAt rows i o) e g).3
 
-  pub second_missing : i < length rows → length rows ≤ j → Err RowNotHeld ≡ fitted_both (row_at (said rows) i) (row_at (said rows) j) line
-  second_missing h k = sym (λ t. fitted_both (row_there rows i d h t) (row_missing rows j k t) line)
+pub missing_told : (got : Option (Bor Row)) (why : Refusal) → got ≡ None → ◌≡◌ {A = Result (Bor Row) Refusal} (Err why) (ok_or got RowNotHeld) → ◌≡◌ {A = Result Row Refusal} (Err why) (Err RowNotHeld)
+missing_told None why e f = let g : why ≡ RowNotHeld = cc in ap (λ (w : Refusal). Err w) g
+missing_told (Some x) why e f = cc
+
+pub both_there : (first second : Row) (i j : Option AttackRow) (line : Line) (made : Result Members Refusal) → i ≡ Some (row_of first) → j ≡ Some (row_of second) → made ≡ fitted_join (joined (row_of first) (row_of second)) →
+    headed first.head line made ≡ fitted_both i j line
+both_there first second i j line made e f g =
+    ap (headed first.head line) g ∙ headed_join (row_of first) (row_of second) line ∙ sym (λ t. fitted_both (e t) (f t) line)
 
 -- a row is read as it was written
 read_back : (row : AttackRow) (line : Line) → length row.members ≤ 12 → row_of (written row line) ≡ row
@@ -115,10 +120,9 @@ module _ (free : Bool) (rows : List AttackRow) where
     two line (Some i) None = refl
     two line (Some i) (Some j) = one line (joined i j)
 
-    pub offered_join : (i j : ℕ) (made out : Result Row Refusal) → made ≡ fitted_both (row_at rows i) (row_at rows j) (Join i j) →
-        out ≡ new_and_free free rows made →
-        out ≡ and_then (offer kinds station manual start free rows (Join i j)) (λ (r : AttackRow). Ok (written r (Join i j)))
-    offered_join i j made out e f = f ∙ ap (new_and_free free rows) e ∙ two (Join i j) (row_at rows i) (row_at rows j)
+    pub offered_join : (i j : ℕ) (made : Result Row Refusal) → made ≡ fitted_both (row_at rows i) (row_at rows j) (Join i j) →
+        new_and_free free rows made ≡ and_then (offer kinds station manual start free rows (Join i j)) (λ (r : AttackRow). Ok (written r (Join i j)))
+    offered_join i j made e = ap (new_and_free free rows) e ∙ two (Join i j) (row_at rows i) (row_at rows j)
 
     module _ (state symbol : ℕ) (line : Line) where
       abbrev called : Option Attempt → AttackRow → Result AttackRow Refusal
@@ -153,21 +157,25 @@ module _ (free : Bool) (rows : List AttackRow) where
           at true false f b g = absurd (ok_not_err a HeadNotCalledFor f)
           at false q f b g = absurd (ok_not_err a HeadNotCalledFor f)
 
-    module _ (side slot state symbol : ℕ) where
+    module _ (side slot state symbol : ℕ) (line : Line) (is : line ≡ Enter side slot state symbol) where
       abbrev tried : Option Attempt
       tried = attempt station manual side slot state symbol
 
-      abbrev out_of_it : Result Row Refusal
-      out_of_it = and_then (offer kinds station manual start free rows (Enter side slot state symbol)) (λ (r : AttackRow). Ok (written r (Enter side slot state symbol)))
+      abbrev out_of_it : Line → Result Row Refusal
+      out_of_it l = and_then (offer kinds station manual start free rows l) (λ (r : AttackRow). Ok (written r l))
 
-      pub enter_refused : (why : Refusal) → Err why ≡ taken_up state symbol tried → Err why ≡ out_of_it
-      enter_refused why e = not_taken state symbol (Enter side slot state symbol) tried why e
+      same_line : out_of_it (Enter side slot state symbol) ≡ out_of_it line
+      same_line = ap (λ (l : Line). and_then (offer kinds station manual start free rows l) (λ (r : AttackRow). Ok (written r l))) (sym is)
 
-      pub enter_uncalled : (a : Attempt) → Ok a ≡ taken_up state symbol tried → false ≡ called_for start rows a.head → Err HeadNotCalledFor ≡ out_of_it
-      enter_uncalled a e off = sym (taken state symbol (Enter side slot state symbol) tried a e false off)
+      pub enter_refused : (why : Refusal) → Err why ≡ taken_up state symbol tried → Err why ≡ out_of_it line
+      enter_refused why e = not_taken state symbol (Enter side slot state symbol) tried why e ∙ same_line
 
-      pub enter_called : (a : Attempt) (made out : Result Row Refusal) → Ok a ≡ taken_up state symbol tried → true ≡ called_for start rows a.head →
-          made ≡ fitted_row (entered kinds station manual a.side a.rule a.head) (Enter side slot state symbol) → out ≡ new_and_free free rows made → out ≡ out_of_it
-      enter_called a made out e on f g =
-          g ∙ ap (new_and_free free rows) f ∙ settled (entered kinds station manual a.side a.rule a.head) (Enter side slot state symbol) ∙
-          sym (taken state symbol (Enter side slot state symbol) tried a e true on)
+      module _ (a : Attempt) (found : Ok a ≡ taken_up state symbol tried) where
+        pub enter_uncalled : false ≡ called_for start rows a.head → Err HeadNotCalledFor ≡ out_of_it line
+        enter_uncalled off = sym (taken state symbol (Enter side slot state symbol) tried a found false off) ∙ same_line
+
+        pub enter_called : (made : Result Row Refusal) → true ≡ called_for start rows a.head → made ≡ fitted_row (entered kinds station manual a.side a.rule a.head) (Enter side slot state symbol) →
+            new_and_free free rows made ≡ out_of_it line
+        enter_called made on e =
+            ap (new_and_free free rows) e ∙ settled (entered kinds station manual a.side a.rule a.head) (Enter side slot state symbol) ∙
+            sym (taken state symbol (Enter side slot state symbol) tried a found true on) ∙ same_line
