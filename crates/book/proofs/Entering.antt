@@ -1,6 +1,6 @@
 -- The enters at a head, slot by slot and side by side.
-use Rattle.std.proofs.Common.{◌≡◌, ℕ, zero, suc, ◌+◌, ◌<◌, ◌≤◌, true, false, cond, ◌&&◌, ltb, ◌⊎◌, List, [], ◌∷◌, ◌++◌, length, get_or, take, Some, None, Option, Result, sym, refl, ap, ◌∙◌, subst, inl, inr, ⊎_elim, arith}
-use Rattle.std.proofs.lemmas.List.{get_or_past, take_more, take_all, length-take-le}
+use Rattle.std.proofs.Common.{◌≡◌, ℕ, zero, suc, ◌+◌, ◌<◌, ◌≤◌, true, false, cond, ◌&&◌, ltb, ◌⊎◌, List, [], ◌∷◌, ◌++◌, length, get_or, take, Some, None, Option, Result, sym, refl, ap, ◌∙◌, subst, inl, inr, ⊎_elim, arith, length-take}
+use Rattle.std.proofs.lemmas.List.{get_or_past, get_or-take, take_more, take_all, length-take-le}
 use Rattle.std.proofs.lemmas.Bool.{both_ways, and_from, lt-ltb, eq-eqb, cases_lt}
 use Rattle.ordered.specs.Laws.{In}
 use Rattle.profile.specs.declared.Kind.{Kind}
@@ -25,7 +25,7 @@ use Rattle.book.specs.Offers.{usable, said, Attempt, by_station_rule, by_manual_
 use Rattle.book.specs.Sides.{side_number, slots_of, rule_at, enter_at, InBytes}
 use Rattle.book.specs.Blank.{blank_row}
 use Rattle.book.specs.Trying.{Known, new_tried, Tried, HeadTried, SlotTried, SideTried, MembersTried, WentOn, Stepped, line_tried, slot_tried, side_tried, head_tried, top_tried, members_tried, tops_tried}
-use Rattle.book.proofs.Numbers.{said_length, row_has_number}
+use Rattle.book.proofs.Numbers.{said_length, row_read, row_has_number}
 use Rattle.book.proofs.Searching.{row_at_inside, in_front, tried_more, head_tried_more, done_more}
 use Rattle.book.proofs.Trials.{went_then, stepped_then, went_for}
 
@@ -34,10 +34,9 @@ pub said_many : (n : ℕ) (rows : List Row) → n ≤ length rows → length (sa
 said_many n rows h = said_length (take n rows) ∙ length-take-le n rows h
 
 pub said_at : (n : ℕ) (rows : List Row) (k : ℕ) (d : Row) → k < n → k < length rows → row_at (said (take n rows)) k ≡ Some (row_of (get_or rows k d))
-said_at n [] k d h i = absurd (omega arith)
-said_at zero (r ∷ rows) k d h i = absurd (omega arith)
-said_at (suc n) (r ∷ rows) zero d h i = refl
-said_at (suc n) (r ∷ rows) (suc k) d h i = said_at n rows k d (omega arith) (omega arith)
+said_at n rows k d h i =
+    let inside : k < length (take n rows) = simp length-take (omega arith) in
+    row_read (take n rows) k d inside ∙ ap (λ (r : Row). Some (row_of r)) (get_or-take n rows k d h)
 
 -- the elements before a place, and the one at it
 pub read_is_in : {X : Type 0} (xs : List X) (i : ℕ) (d : X) → i < length xs → In (get_or xs i d) xs

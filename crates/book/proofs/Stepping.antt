@@ -1,5 +1,5 @@
 -- The steps of the search.
-use Rattle.std.proofs.Common.{◌≡◌, ℕ, ◌+◌, ◌<◌, ◌≤◌, Bool, true, false, cond, ltb, leb, List, [], ◌∷◌, ◌++◌, length, take, set, Some, None, Ok, Err, Option, Result, sym, refl, ap, ◌∙◌, subst, inl, inr, arith}
+use Rattle.std.proofs.Common.{◌≡◌, ℕ, ◌+◌, ◌<◌, ◌≤◌, Bool, true, false, cond, ltb, leb, List, [], ◌∷◌, ◌++◌, length, take, set, Some, None, Ok, Err, Option, Result, sym, refl, ap, ◌∙◌, subst, inl, inr}
 use Rattle.std.proofs.lemmas.List.{take_more_set}
 use Rattle.std.proofs.lemmas.Bool.{false≢true}
 use Rattle.ordered.specs.Laws.{In}
@@ -10,18 +10,15 @@ use Rattle.game.specs.declared.Line.{Line}
 use Rattle.game.specs.declared.Line.TheVariants.{Enter, Join}
 use Rattle.game.specs.declared.Row.{Row}
 use Rattle.game.specs.Members.{AttackRow}
-use Rattle.game.specs.Computed.{any_of, joined}
+use Rattle.game.specs.Computed.{any_of}
 use Rattle.book.specs.declared.Refusal.{Refusal}
 use Rattle.book.specs.declared.Refusal.TheVariants.{NoSuchAttack, HeadNotCalledFor, TooManyMembers, RowAlreadyHeld, NoRowFree, RowNotHeld, RowsDoNotJoin, RowsDoNotFit}
-use Rattle.book.specs.Offers.{and_then, said, row_at, Attempt, attempt, row_eq, line_row, line_called, entered_row, join_of, joined_row, offer, written}
+use Rattle.book.specs.Offers.{and_then, said, row_at, row_eq, line_row, line_called, join_of, offer, written}
 use Rattle.book.specs.Searches.{Idle, Stuck}
 use Rattle.book.specs.Trying.{stuck_by, WentOn, GotStuck, line_tried}
 use Rattle.book.proofs.Numbers.{said_written}
-use Rattle.book.proofs.Tested.{ok_same, taken, idle_is_held}
+use Rattle.book.proofs.Tested.{NoRow, ok_same, no_row_why, taken, idle_is_held}
 use Rattle.book.proofs.Searching.{CitesHeld, row_at_inside, same_row_made, went_one, went_nowhere}
-
-pub impossible : {P : Type 0} → ◌≡◌ {A = ℕ} 0 1 → P
-impossible z = absurd (omega arith)
 
 in_last : {X : Type 0} (x : X) (xs : List X) → In x (xs ++ x ∷ [])
 in_last x [] = inl refl
@@ -33,37 +30,27 @@ module _ (kinds : ℕ → Option Kind) (station manual : List (Option Rule)) (st
   made_cites rows (Enter side slot state symbol) row e = tt
   made_cites rows (Join i j) row e = at (row_at rows i) (row_at rows j) refl refl e where
     at : (x y : Option AttackRow) → row_at rows i ≡ x → row_at rows j ≡ y → join_of kinds station manual start x y ≡ Ok row → (i < length rows) × (j < length rows)
-    at None y ex ey h = impossible (cc)
-    at (Some a) None ex ey h = impossible (cc)
+    at None y ex ey h = cc
+    at (Some a) None ex ey h = cc
     at (Some a) (Some b) ex ey h = (row_at_inside rows i a ex, row_at_inside rows j b ey)
 
   -- the answer 8 is none of an offered line
   never_eight : (free : Bool) (rows : List AttackRow) (line : Line) → offer kinds station manual start free rows line ≡ Err RowsDoNotFit → ⊥
   never_eight free rows line = at (line_row kinds station manual start rows line) refl where
-    why_none : (line : Line) → line_row kinds station manual start rows line ≡ Err RowsDoNotFit → ⊥
-    why_none (Enter side slot state symbol) = by_attempt (attempt station manual side slot state symbol) where
-      by_attempt : (o : Option Attempt) → entered_row kinds station manual start o ≡ Err RowsDoNotFit → ⊥
-      by_attempt None h = impossible (cc)
-      by_attempt (Some a) h = impossible (cc)
-    why_none (Join i j) = by_rows (row_at rows i) (row_at rows j) where
-      by_join : (o : Option AttackRow) → joined_row kinds station manual start o ≡ Err RowsDoNotFit → ⊥
-      by_join None h = impossible (cc)
-      by_join (Some k) h = impossible (cc)
-
-      by_rows : (x y : Option AttackRow) → join_of kinds station manual start x y ≡ Err RowsDoNotFit → ⊥
-      by_rows None y h = impossible (cc)
-      by_rows (Some a) None h = impossible (cc)
-      by_rows (Some a) (Some b) h = by_join (joined a b) h
+    no_row : (why : Refusal) → NoRow why → ◌≡◌ {A = Result AttackRow Refusal} (Err why) (Err RowsDoNotFit) → ⊥
+    no_row why (inl e) h = cc
+    no_row why (inr (inl e)) h = cc
+    no_row why (inr (inr e)) h = cc
 
     tests : (a b d e : Bool) (row : AttackRow) → cond a (cond b (cond d (Err RowAlreadyHeld) (cond e (Ok row) (Err NoRowFree))) (Err TooManyMembers)) (Err HeadNotCalledFor) ≡ Err RowsDoNotFit → ⊥
-    tests true true true e row h = impossible (cc)
-    tests true true false true row h = impossible (cc)
-    tests true true false false row h = impossible (cc)
-    tests true false d e row h = impossible (cc)
-    tests false b d e row h = impossible (cc)
+    tests true true true e row h = cc
+    tests true true false true row h = cc
+    tests true true false false row h = cc
+    tests true false d e row h = cc
+    tests false b d e row h = cc
 
     at : (x : Result AttackRow Refusal) → line_row kinds station manual start rows line ≡ x → and_then x (λ row. cond (line_called kinds station manual start rows line) (cond (leb (length row.members) 12) (cond (any_of (row_eq row) rows) (Err RowAlreadyHeld) (cond free (Ok row) (Err NoRowFree))) (Err TooManyMembers)) (Err HeadNotCalledFor)) ≡ Err RowsDoNotFit → ⊥
-    at (Err why) e h = why_none line (e ∙ (let f : why ≡ RowsDoNotFit = cc in ap Err f))
+    at (Err why) e h = no_row why (no_row_why kinds station manual start rows why line e) h
     at (Ok row) e h = tests (line_called kinds station manual start rows line) (leb (length row.members) 12) (any_of (row_eq row) rows) free row h
 
   module _ (room : ℕ) where

@@ -21,7 +21,7 @@ pub enum Asked {
     Undecided,
 }
 
-// What a completed book answers.
+// What a completed book answers: a type of its own, so that a draft cannot say that the station refines.
 #[derive(Clone, Copy, PartialEq, Eq, Debug)]
 pub enum Verdict {
     Refuted,

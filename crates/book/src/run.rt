@@ -120,7 +120,7 @@ impl From<Verdict> for Answer {
     }
 }
 
-// A call on a draft.
+// A call on a draft. The two profiles are named one by one here, as in the calls of a draft.
 fn step_draft<S: Profile, M: Profile>(
     mut draft: Draft,
     station: &S,

@@ -228,6 +228,7 @@ impl<'a, S: Profile, M: Profile> Sides<'a, S, M> {
         ensures { let s = S.Profile.rules self.now.station.now in let m = M.Profile.rules self.now.manual.now in Stepped event_kind s m self.now.start (usable rows.old) count rows.old (all_tried event_kind s m self.now.start) result rows.new }
     {
         let mut held = self.try_head(rows, count, self.start)?;
+        // By number: rows are appended while the loop runs, so no range and no slice has its end.
         let mut k = 0;
         'search: {
             while k < held {

@@ -1,6 +1,6 @@
 use Rattle.std.proofs.lemmas.Result.{err_from_is_err_and}
 use Rattle.book.proofs.Trials.{stuck_then}
-use Rattle.book.proofs.Entering.{side_goes_on, side_ends}
+use Rattle.book.proofs.Entering.{side_goes_on}
 use Rattle.book.proofs.making.Sides.try_side.Goals as goal
 
 pub returns-in_err-held : goal.returns-in_err-held
