@@ -1,5 +1,5 @@
 -- What each answer to an offered line tells of the line and of the row that it makes.
-use Rattle.std.proofs.Common.{◌≡◌, ℕ, zero, suc, ◌<◌, ◌≤◌, Bool, true, false, cond, ◌&&◌, ltb, leb, ◌⊎◌, List, [], length, get_or, Some, None, Ok, Err, Option, Result, sym, refl, subst, inl, inr, arith}
+use Rattle.std.proofs.Common.{◌≡◌, ℕ, zero, suc, ◌<◌, ◌≤◌, Bool, true, false, cond, ◌&&◌, ltb, leb, ◌⊎◌, List, [], length, get_or, Some, None, Ok, Err, Option, Result, sym, refl, subst, inl, inr}
 use Rattle.std.proofs.lemmas.Option.{none-some, same_Some}
 use Rattle.std.proofs.lemmas.Bool.{and_parts, and_from, eq-eqb, leb-true, leb-false, false≢true}
 use Rattle.ordered.specs.Laws.{In}
@@ -144,7 +144,7 @@ module _ (kinds : ℕ → Option Kind) (station manual : List (Option Rule)) (st
   module _ (rows : List AttackRow) (why : Refusal) where
     no_enter : (t : Option Attempt) → entered_row kinds station manual start t ≡ Err why → NoRow why
     no_enter None e = inl (err_same why NoSuchAttack e)
-    no_enter (Some a) e = absurd (err_is_not_ok why (entered kinds station manual a.side a.rule a.head) (sym e))
+    no_enter (Some a) e = cc
 
     not_joined : (t : Option AttackRow) → joined_row kinds station manual start t ≡ Err why → NoRow why
     not_joined None e = inr (inr (err_same why RowsDoNotJoin e))
