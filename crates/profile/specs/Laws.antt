@@ -1,8 +1,8 @@
 -- The law of a rule and its test say the same; a table's law follows from what its type keeps.
-use Rattle.std.specs.Prelude.{◌≡◌, ℕ, zero, suc, ◌<◌, ◌≤◌, Bool, true, false, List, [], ◌∷◌, map, length, Some, None, Ok, Err, Decides, Option, Result, nat_lt, slice_index_or, refl}
-use Rattle.std.proofs.Common.{arith, sym, subst, ◌∙◌, inl, inr}
+use Rattle.std.specs.Prelude.{◌≡◌, ℕ, ◌<◌, ◌≤◌, true, false, List, [], ◌∷◌, map, length, Some, None, Ok, Err, Option, Result, nat_lt, refl}
+use Rattle.std.proofs.Common.{sym, subst, inl, inr}
 use Rattle.std.proofs.lemmas.Bool.{ltb-true, lt-ltb, eqb-true, eq-eqb, and_parts, and_from, both_ways}
-use Rattle.std.proofs.lemmas.List.{get_or_past, length-map}
+use Rattle.std.proofs.lemmas.List.{length-map}
 use Rattle.ordered.specs.Lex.{lex_le}
 use Rattle.ordered.specs.declared.Unplaced.{Unplaced}
 use Rattle.ordered.specs.declared.Unplaced.TheVariants.{Double, Full}
@@ -43,9 +43,6 @@ module _ (kinds : ℕ → Option Kind) where
       and_from _ _ (lt-ltb _ _ l.state) (and_from _ _ (lt-ltb _ _ l.next) (and_from _ _ (lt-ltb _ _ l.top) (and_from _ _ (lt-ltb _ _ l.upper)
       (and_from _ _ (lt-ltb _ _ l.lower) (formed_shown (kinds r.event) r.upper r.lower l.form)))))
 
-  pub lawful_decided : (b : Bool) (r : Rule) → b ≡ lawful_rule kinds r → Decides b (LawfulRule kinds r)
-  lawful_decided b r e = (λ h. lawful_means r (sym e ∙ h), λ l. e ∙ lawful_shown r l)
-
   pub each_lawful : (rs : List Rule) → all_lawful kinds rs ≡ true → (r : Rule) → In r rs → LawfulRule kinds r
   each_lawful [] e r h = absurd h
   each_lawful (s ∷ rs) e r (inl h) = subst (λ (x : Rule). LawfulRule kinds x) (sym h) (lawful_means s (and_parts _ _ e).0)
@@ -54,14 +51,6 @@ module _ (kinds : ℕ → Option Kind) where
   pub all_lawful_from : (rs : List Rule) → ((r : Rule) → In r rs → LawfulRule kinds r) → all_lawful kinds rs ≡ true
   all_lawful_from [] h = refl
   all_lawful_from (r ∷ rs) h = and_from _ _ (lawful_shown r (h r (inl refl))) (all_lawful_from rs (λ s k. h s (inr k)))
-
-pub slot_inside : (rs : List Rule) (i : ℕ) (d : Rule) → i < length rs → Some (slice_index_or rs i d) ≡ slice_index_or (map Some rs) i None
-slot_inside [] i d h = absurd (omega arith)
-slot_inside (r ∷ rs) zero d h = refl
-slot_inside (r ∷ rs) (suc i) d h = slot_inside rs i d (omega arith)
-
-pub slot_past : (rs : List Rule) (i : ℕ) → length rs ≤ i → None ≡ slice_index_or (map Some rs) i None
-slot_past rs i h = sym (get_or_past (map Some rs) i None (simp length-map h))
 
 -- one rule more keeps all that a table keeps
 pub one_more : (was is : List Rule) (r : Rule) (at : ℕ) → Placed rule_key lex_le r was is at → lawful_rule event_kind r ≡ true → all_lawful event_kind was ≡ true → rules_ascend was ≡ true → (all_lawful event_kind is ≡ true) × (rules_ascend is ≡ true)
@@ -79,8 +68,8 @@ still_kept was is r (Ok at) h new few old up = let kept = one_more was is r at h
 still_kept was is r (Err (Double at)) h new few old up = rw h.1 (few, old, up)
 still_kept was is r (Err Full) h new few old up = rw h.1 (few, old, up)
 
-pub table_law : (rules : List Rule) (state symbol : ℕ) → length rules ≤ 96 → all_lawful event_kind rules ≡ true → rules_ascend rules ≡ true → state < 8 → symbol < 16 → LawfulTable rules (state, symbol)
-table_law rules state symbol few law up hs hx = record {
+pub table_law : (rules : List Rule) (start : ℕ × ℕ) → length rules ≤ 96 → all_lawful event_kind rules ≡ true → rules_ascend rules ≡ true → start.0 < 8 → start.1 < 16 → LawfulTable rules start
+table_law rules start few law up hs hx = record {
   few = few;
   lawful = each_lawful event_kind rules law;
   ascending = ascending_from_test rule_le rules up;
