@@ -1,8 +1,8 @@
 -- The law of a rule and its test say the same; a table's law follows from what its type keeps.
-use Rattle.std.specs.Prelude.{◌≡◌, ℕ, ◌<◌, ◌≤◌, true, false, List, [], ◌∷◌, map, length, Some, None, Ok, Err, Option, Result, nat_lt, refl}
-use Rattle.std.proofs.Common.{sym, subst, inl, inr}
+use Rattle.std.specs.Prelude.{◌≡◌, ℕ, zero, suc, ◌+◌, ◌<◌, ◌≤◌, Bool, true, false, List, [], ◌∷◌, map, length, take, Some, None, Ok, Err, Decides, Option, Result, nat_lt, slice_index_or, refl}
+use Rattle.std.proofs.Common.{arith, sym, subst, ◌∙◌, inl, inr}
 use Rattle.std.proofs.lemmas.Bool.{ltb-true, lt-ltb, eqb-true, eq-eqb, and_parts, and_from, both_ways}
-use Rattle.std.proofs.lemmas.List.{length-map}
+use Rattle.std.proofs.lemmas.List.{length-take, length-take-le, get_or_past, length-map}
 use Rattle.ordered.specs.Lex.{lex_le}
 use Rattle.ordered.specs.declared.Unplaced.{Unplaced}
 use Rattle.ordered.specs.declared.Unplaced.TheVariants.{Double, Full}
@@ -43,6 +43,9 @@ module _ (kinds : ℕ → Option Kind) where
       and_from _ _ (lt-ltb _ _ l.state) (and_from _ _ (lt-ltb _ _ l.next) (and_from _ _ (lt-ltb _ _ l.top) (and_from _ _ (lt-ltb _ _ l.upper)
       (and_from _ _ (lt-ltb _ _ l.lower) (formed_shown (kinds r.event) r.upper r.lower l.form)))))
 
+  pub lawful_decided : (b : Bool) (r : Rule) → b ≡ lawful_rule kinds r → Decides b (LawfulRule kinds r)
+  lawful_decided b r e = (λ h. lawful_means r (sym e ∙ h), λ l. e ∙ lawful_shown r l)
+
   pub each_lawful : (rs : List Rule) → all_lawful kinds rs ≡ true → (r : Rule) → In r rs → LawfulRule kinds r
   each_lawful [] e r h = absurd h
   each_lawful (s ∷ rs) e r (inl h) = subst (λ (x : Rule). LawfulRule kinds x) (sym h) (lawful_means s (and_parts _ _ e).0)
@@ -51,6 +54,14 @@ module _ (kinds : ℕ → Option Kind) where
   pub all_lawful_from : (rs : List Rule) → ((r : Rule) → In r rs → LawfulRule kinds r) → all_lawful kinds rs ≡ true
   all_lawful_from [] h = refl
   all_lawful_from (r ∷ rs) h = and_from _ _ (lawful_shown r (h r (inl refl))) (all_lawful_from rs (λ s k. h s (inr k)))
+
+pub slot_inside : (rs : List Rule) (i : ℕ) (d : Rule) → i < length rs → Some (slice_index_or rs i d) ≡ slice_index_or (map Some rs) i None
+slot_inside [] i d h = absurd (omega arith)
+slot_inside (r ∷ rs) zero d h = refl
+slot_inside (r ∷ rs) (suc i) d h = slot_inside rs i d (omega arith)
+
+pub slot_past : (rs : List Rule) (i : ℕ) → length rs ≤ i → None ≡ slice_index_or (map Some rs) i None
+slot_past rs i h = sym (get_or_past (map Some rs) i None (simp length-map h))
 
 -- one rule more keeps all that a table keeps
 pub one_more : (was is : List Rule) (r : Rule) (at : ℕ) → Placed rule_key lex_le r was is at → lawful_rule event_kind r ≡ true → all_lawful event_kind was ≡ true → rules_ascend was ≡ true → (all_lawful event_kind is ≡ true) × (rules_ascend is ≡ true)
@@ -76,6 +87,13 @@ table_law rules start few law up hs hx = record {
   state = hs;
   symbol = hx;
 }
+
+pub room_was_left : (was is : List Rule) (r : Rule) (count at : ℕ) → length was ≡ 96 → length is ≡ 96 → count ≤ 96 → Placed rule_key lex_le r (take count was) (take (count + 1) is) at → count + 1 ≤ 96
+room_was_left was is r count at full kept few p =
+    let a = length-take (count + 1) is in
+    let b = length-take-le count was (omega arith) in
+    let l = p.longer in
+    omega arith
 
 -- the law of a table, read as that of a profile with one rule to a slot
 slots_lawful : (rs : List Rule) → ((r : Rule) → In r rs → LawfulRule event_kind r) → LawfulSlots event_kind (map Some rs)
