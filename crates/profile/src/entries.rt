@@ -5,5 +5,5 @@ ghost use Rattle.std.specs.Prelude.{◌≡◌, slice_index_or};
 pub(crate) fn entry_or<T: Copy>(row: &[T], i: usize, otherwise: T) -> T
     ensures { result ≡ slice_index_or row.now i otherwise }
 {
-    if i < row.len() { row[i] } else { otherwise }
+    row.get(i).copied().unwrap_or(otherwise)
 }
