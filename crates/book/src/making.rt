@@ -14,7 +14,7 @@ use crate::Refusal;
 use crate::attack::{Attack, attack_of};
 use crate::held::{has_room, held_of, is_among, is_called_for};
 use crate::joining::join_rows;
-use crate::reply::{Side, replies};
+use crate::reply::Side;
 use crate::width::{Members, row_with};
 use game::{Head, Line, Row};
 use profile::Profile;
@@ -86,8 +86,8 @@ impl<'a, S: Profile, M: Profile> Sides<'a, S, M> {
         ensures { result ≡ fitted (entered event_kind (S.Profile.rules self.now.station.now) (M.Profile.rules self.now.manual.now) (player attack.side) attack.rule attack.head).members }
     {
         match attack.side {
-            Side::Station => replies(self.manual, Side::Station, attack.rule, attack.head),
-            Side::Manual => replies(self.station, Side::Manual, attack.rule, attack.head),
+            Side::Station => attack.replies(self.manual),
+            Side::Manual => attack.replies(self.station),
         }
     }
 
