@@ -1,13 +1,14 @@
 -- The laws of insertion, for a total order of keys.
-use Rattle.std.proofs.Common.{◌≡◌, ℕ, ◌+◌, ◌-◌, ◌<◌, ◌≤◌, min, Bool, true, false, cond, ltb, ◌⊎◌, List, [], ◌∷◌, ◌++◌, length, get_or, take, drop, Ok, Err, sym, refl, ap, ◌∙◌, subst, inl, inr, arith}
+use Rattle.std.proofs.Common.{◌≡◌, ℕ, ◌+◌, ◌-◌, ◌<◌, ◌≤◌, min, Bool, true, false, cond, ltb, ◌⊎◌, List, [], ◌∷◌, ◌++◌, length, get_or, take, drop, Ok, Err, Result, sym, refl, ap, ◌∙◌, subst, inl, inr, arith}
 use Rattle.std.proofs.lemmas.List.{take_at, take_all, drop_at, length-take-le}
 use Rattle.std.proofs.lemmas.List.Edits.{length-insert, get_or-insert_at}
-use Rattle.std.proofs.lemmas.Bool.{both_ways, and_parts, and_from, not-true, not_from_false, cases_lt, cond-true, cond-false, lt-ltb, le-ltb, ltb-true}
+use Rattle.std.proofs.lemmas.Bool.{both_ways, and_parts, and_from, not-true, not_from_false, cases_lt, ltb-true, ltb-false}
 use Rattle.std.specs.List.{insert}
+use Rattle.ordered.specs.declared.Unplaced.{Unplaced}
 use Rattle.ordered.specs.declared.Unplaced.TheVariants.{Double, Full}
-use Rattle.ordered.specs.Insert.{place_of, present, sought, insert_into, insert_answer}
-use Rattle.ordered.specs.Laws.{by_key, Before, Ascending, before_all, ascends, In, HasKey, Placed, Doubled}
-use Rattle.ordered.proofs.Scans.{place_within, present_there, goes, at_ok, at_err}
+use Rattle.ordered.specs.Insert.{place_of, present, insert_into, insert_answer, insert_after}
+use Rattle.ordered.specs.Laws.{by_key, Before, Ascending, before_all, ascends, In, HasKey, Placed, Doubled, LawfulInsertion}
+use Rattle.ordered.proofs.Scans.{place_within, present_there, goes}
 
 -- Where x is new, the elements afterwards are the old ones and x: under any test `le`.
 module _ {X : Type 0} (le : X → X → Bool) (x : X) where
@@ -161,6 +162,20 @@ module _ {X K : Type 0} (key : X → K) (le : K → K → Bool) (reflexive : (a 
         back,
       )
 
+  -- the laws of an insertion, from what it answers and leaves
+  pub lawful_insertion : (was is : List X) (count : ℕ) (told : Result ℕ Unplaced) → told ≡ insert_answer test x count was → is ≡ insert_after test x count was told → LawfulInsertion key le x count was is told
+  lawful_insertion was is count told e after = ways (present test x held) (ltb count (length was)) refl refl e after where
+    held : List X
+    held = take count was
+
+    ways : (b r : Bool) → present test x held ≡ b → ltb count (length was) ≡ r → told ≡ cond b (Err (Double (place_of test x held))) (cond r (Ok (place_of test x held)) (Err Full)) → is ≡ insert_after test x count was told → LawfulInsertion key le x count was is told
+    ways true r p q e after = let kept : is ≡ was = rw e at after in rw e (key_at_double held p, kept)
+    ways false true p q e after = let put : is ≡ insert_into test x held ++ drop (count + 1) was = rw e at after in rw e (placed count (place_of test x held) was is (ltb-true count (length was) q) refl p put)
+    ways false false p q e after =
+        let kept : is ≡ was = rw e at after in
+        let full = ltb-false count (length was) q in
+        rw e (omega (arith, full), kept, λ a. key_is_new held a p)
+
 -- the elements that are read: the first `count`, or all where there are fewer
 pub held_read : {X : Type 0} (was : List X) (count h : ℕ) → h ≡ min count (length was) → take (h - 0) was ≡ take count was
 held_read was count h e =
@@ -169,48 +184,18 @@ held_read was count h e =
       | inr a ↦ (let k : length was ≤ h - 0 = omega arith in take_all (h - 0) was k ∙ sym (take_all count was a))
     ]
 
--- where an element is admitted, its place was sought and found, and there is room
-pub admitted : {X : Type 0} (le : X → X → Bool) (x : X) (was : List X) (count at : ℕ) → Ok at ≡ insert_answer le x count was → (Ok at ≡ sought le x (take count was)) × (count < length was)
-admitted le x was count at e = ways (present le x (take count was)) (ltb count (length was)) refl refl e where
-  ways : (b r : Bool) → present le x (take count was) ≡ b → ltb count (length was) ≡ r → Ok at ≡ cond b (Err (Double (place_of le x (take count was)))) (cond r (Ok (place_of le x (take count was))) (Err Full)) → (Ok at ≡ sought le x (take count was)) × (count < length was)
-  ways true r p q told = let z : ◌≡◌ {A = ℕ} 0 1 = cc in absurd (omega arith)
-  ways false true p q told = (let same : at ≡ place_of le x (take count was) = cc in ap Ok same ∙ sym (cond-false _ _ _ p), ltb-true count (length was) q)
-  ways false false p q told = let z : ◌≡◌ {A = ℕ} 0 1 = cc in absurd (omega arith)
+-- where an element is admitted, what its insertion at that place comes to
+pub admitted : {X : Type 0} (le : X → X → Bool) (x : X) (was : List X) (count at : ℕ) → Ok at ≡ insert_answer le x count was → (at ≤ count) × (count < length was) × (insert (take count was) at x ≡ insert_into le x (take count was))
+admitted {X} le x was count at e = ways (present le x (take count was)) (ltb count (length was)) refl refl e where
+  held : List X
+  held = take count was
 
--- the three ways out of an insertion: what was sought is among `read`, which are the elements held
-module _ {X K : Type 0} (key : X → K) (le : K → K → Bool) (reflexive : (a : K) → le a a ≡ true) (antisymmetric : (a b : K) → le a b ≡ true → le b a ≡ true → a ≡ b) (transitive : (a b d : K) → le a b ≡ true → le b d ≡ true → le a d ≡ true) (total : (a b : K) → le a b ≡ false → le b a ≡ true) (x : X) (was read : List X) (count at : ℕ) (same : read ≡ take count was) where
-  pub told_double : Err at ≡ sought (by_key key le) x read → (Err (Double at) ≡ insert_answer (by_key key le) x count was) × Doubled key x (take count was) at
-  told_double e =
-      let p = at_err (by_key key le) x (take count was) at (e ∙ ap (sought (by_key key le) x) same) in
-      let d = key_at_double key le reflexive antisymmetric transitive total x (take count was) p.1 in
-      (ap (λ (n : ℕ). Err (Double n)) p.0 ∙ sym (cond-true _ _ _ p.1), subst (λ (n : ℕ). Doubled key x (take count was) n) (sym p.0) d)
-
-  fresh : Ok at ≡ sought (by_key key le) x read → (at ≡ place_of (by_key key le) x (take count was)) × (present (by_key key le) x (take count was) ≡ false)
-  fresh e = at_ok (by_key key le) x (take count was) at (e ∙ ap (sought (by_key key le) x) same)
-
-  pub told_full : Ok at ≡ sought (by_key key le) x read → length was ≤ count → (Err Full ≡ insert_answer (by_key key le) x count was) × (Ascending (by_key key le) (take count was) → HasKey key (key x) (take count was) → ⊥)
-  told_full e full =
-      let p = fresh e in
-      (sym (cond-false _ _ _ p.1 ∙ cond-false _ _ _ (le-ltb _ _ full)), λ a. key_is_new key le reflexive antisymmetric transitive total x (take count was) a p.1)
-
-  pub place_fits : Ok at ≡ sought (by_key key le) x read → count < length was → at ≤ count
-  place_fits e room =
-      let p = fresh e in
-      let w = place_within (by_key key le) x (take count was) in
+  ways : (b r : Bool) → present le x (take count was) ≡ b → ltb count (length was) ≡ r → Ok at ≡ cond b (Err (Double (place_of le x (take count was)))) (cond r (Ok (place_of le x (take count was))) (Err Full)) → (at ≤ count) × (count < length was) × (insert (take count was) at x ≡ insert_into le x (take count was))
+  ways true r p q told = cc
+  ways false false p q told = cc
+  ways false true p q told =
+      let same : at ≡ place_of le x (take count was) = cc in
+      let room = ltb-true count (length was) q in
+      let w = place_within le x (take count was) in
       let n = length-take-le count was (omega arith) in
-      omega arith
-
-  pub told_room : Ok at ≡ sought (by_key key le) x read → count < length was → Ok at ≡ insert_answer (by_key key le) x count was
-  told_room e room = let p = fresh e in ap Ok p.0 ∙ sym (cond-false _ _ _ p.1 ∙ cond-true _ _ _ (lt-ltb _ _ room))
-
-  pub told_placed : (is : List X) → Ok at ≡ sought (by_key key le) x read → count < length was → is ≡ insert (take count was) at x ++ drop (count + 1) was → (Ok at ≡ insert_answer (by_key key le) x count was) × (is ≡ insert_into (by_key key le) x (take count was) ++ drop (count + 1) was)
-  told_placed is e room put =
-      let p = fresh e in (
-        told_room e room,
-        put ∙ ap (λ (l : List X). l ++ drop (count + 1) was) (ap (λ (n : ℕ). insert (take count was) n x) p.0 ∙ sym (goes (by_key key le) x (take count was) p.1)),
-      )
-
-  pub lawful_placed : (is : List X) → Ok at ≡ sought (by_key key le) x read → count < length was → is ≡ insert_into (by_key key le) x (take count was) ++ drop (count + 1) was → Placed key le x (take count was) (take (count + 1) is) at × (drop (count + 1) is ≡ drop (count + 1) was)
-  lawful_placed is e room put =
-      let p = fresh e in
-      placed key le reflexive antisymmetric transitive total x count at was is room p.0 p.1 put
+      (omega arith, room, ap (λ (p : ℕ). insert (take count was) p x) same ∙ sym (goes le x (take count was) p))

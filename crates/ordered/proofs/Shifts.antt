@@ -1,41 +1,29 @@
--- Moving elements one place on, with a carry: put back at its place, the carry gives the list as it is to be.
-use Rattle.std.proofs.Common.{◌≡◌, ℕ, zero, suc, ◌+◌, ◌<◌, ◌≤◌, List, [], ◌∷◌, ◌++◌, length, get_or, take, drop, set, sym, refl, ap, ◌∙◌, append_assoc, arith}
-use Rattle.std.proofs.lemmas.List.{drop_more, take_more_set, drop-set-lt, take_at, drop_at, length-take-le, take-append-drop}
+-- An element written behind others and turned to their front, which moves each of them one place on.
+use Rattle.std.proofs.Common.{◌≡◌, ℕ, zero, suc, ◌+◌, ◌-◌, ◌<◌, ◌≤◌, List, [], ◌∷◌, ◌++◌, length, take, drop, set, refl, ap, ◌∙◌, arith}
+use Rattle.std.proofs.lemmas.List.{take_more_set, drop-set-lt, take_at, drop_at, length-take-le, length-append}
+use Rattle.std.proofs.Math.Numerals.{suc-eq-add-one}
 use Rattle.std.specs.List.{insert}
+use borrow.Rule.Slice.PartMut.{put_mid, mid_of}
 
 module _ {X : Type 0} where
-  pub shift_more : (xs : List X) (i : ℕ) (c y : X) → i < length xs → y ≡ get_or xs i y → insert (set xs i c) (i + 1) y ≡ insert xs i c
-  shift_more xs i c y h read =
-      let front = take_more_set xs i c h in
-      let back : drop (i + 1) (set xs i c) ≡ drop (i + 1) xs = drop-set-lt (i + 1) xs i c (omega arith) in
-      let rest : drop i xs ≡ y ∷ drop (i + 1) xs = drop_more xs i y h ∙ ap (λ z. z ∷ drop (i + 1) xs) (sym read) in
-      rw (front, back, append_assoc, rest) refl
+  -- the last of some elements, turned to their front
+  abbrev turned : List X → List X
+  turned ys = drop (length ys - 1) ys ++ take (length ys - 1) ys
 
-  -- an insertion below `count` splits there
-  split : (es : List X) (at count : ℕ) (x : X) → at ≤ count → count ≤ length es → insert es at x ≡ insert (take count es) at x ++ drop count es
-  split es zero count x h k = ap (λ l. x ∷ l) (sym (take-append-drop count es))
-  split [] (suc at) count x h k = absurd (omega arith)
-  split (e ∷ es) (suc at) zero x h k = absurd (omega arith)
-  split (e ∷ es) (suc at) (suc count) x h k = ap (λ l. e ∷ l) (split es at count x (omega arith) (omega arith))
+  turned_in : (es : List X) (at count k : ℕ) (x : X) (ys : List X) → at ≤ count → count < length es → at + k ≡ suc count → ys ≡ turned (mid_of at k (set es count x)) → put_mid at k (set es count x) ys ≡ insert (take count es) at x ++ drop (suc count) es
+  turned_in es zero count k x ys h room n turn =
+      let same : k ≡ count + 1 = omega arith in
+      let next : k ≡ suc count = omega arith in
+      let whole : take k (set es count x) ≡ take count es ++ x ∷ [] = ap (λ m. take m (set es count x)) same ∙ take_more_set es count x room in
+      let past : drop k (set es count x) ≡ drop (suc count) es = drop-set-lt k es count x (omega arith) ∙ ap (λ m. drop m es) next in
+      let front : length (take count es) ≡ count = length-take-le count es (omega arith) in
+      let long : length (take count es ++ x ∷ []) - 1 ≡ count = simp length-append (omega arith) in
+      let moved : ys ≡ x ∷ take count es = turn ∙ ap turned whole ∙ rw (long, drop_at (take count es) (x ∷ []) count front, take_at (take count es) (x ∷ []) count front) refl in
+      rw (moved, past) refl
+  turned_in [] (suc at) count k x ys h room n turn = absurd (omega arith)
+  turned_in (e ∷ es) (suc at) zero k x ys h room n turn = absurd (omega arith)
+  turned_in (e ∷ es) (suc at) (suc count) k x ys h room n turn = ap (λ l. e ∷ l) (turned_in es at count k x ys (omega arith) (omega arith) (omega arith) turn)
 
-  long : (es : List X) (at count : ℕ) (x : X) → at ≤ count → count ≤ length es → length (insert (take count es) at x) ≡ suc count
-  long es zero count x h k = ap suc (length-take-le count es k)
-  long [] (suc at) count x h k = absurd (omega arith)
-  long (e ∷ es) (suc at) zero x h k = absurd (omega arith)
-  long (e ∷ es) (suc at) (suc count) x h k = ap suc (long es at count x (omega arith) (omega arith))
-
-  abbrev first_gone : List X → List X
-  first_gone [] = []
-  first_gone (y ∷ ys) = ys
-
-  pub shift_end : (es xs : List X) (at count i : ℕ) (x c : X) → at ≤ count → count < length es → length xs ≡ length es → i ≡ count + 1 → insert xs i c ≡ insert es at x → xs ≡ insert (take count es) at x ++ drop (count + 1) es
-  shift_end es xs at count i x c h k same ei inv =
-      let n : i ≤ length xs = omega arith in
-      let whole : take i xs ++ (c ∷ drop i xs) ≡ insert (take count es) at x ++ drop count es = inv ∙ split es at count x h (omega arith) in
-      let a : length (take i xs) ≡ i = length-take-le i xs n in
-      let l = long es at count x h (omega arith) in
-      let b : length (insert (take count es) at x) ≡ i = omega arith in
-      let front : take i xs ≡ insert (take count es) at x = sym (take_at (take i xs) (c ∷ drop i xs) i a) ∙ ap (take i) whole ∙ take_at (insert (take count es) at x) (drop count es) i b in
-      let back : c ∷ drop i xs ≡ drop count es = sym (drop_at (take i xs) (c ∷ drop i xs) i a) ∙ ap (drop i) whole ∙ drop_at (insert (take count es) at x) (drop count es) i b in
-      let rest : drop i xs ≡ drop (count + 1) es = ap first_gone back ∙ ap first_gone (drop_more es count c k) in
-      sym (take-append-drop i xs) ∙ ap (λ l. l ++ drop i xs) front ∙ ap (λ l. insert (take count es) at x ++ l) rest
+  pub shifted : (es : List X) (at count : ℕ) (x : X) (ys : List X) → at ≤ count → count < length es → ys ≡ turned (mid_of at (count + 1 - at) (set es count x)) → put_mid at (count + 1 - at) (set es count x) ys ≡ insert (take count es) at x ++ drop (count + 1) es
+  shifted es at count x ys h room turn =
+      turned_in es at count (count + 1 - at) x ys h room (omega arith) turn ∙ ap (λ m. insert (take count es) at x ++ drop m es) (suc-eq-add-one count)

@@ -35,3 +35,13 @@ module _ {X : Type 0} (le : X → X → Bool) (x : X) where
   abbrev pub insert_after : ℕ → List X → Result ℕ Unplaced → List X
   insert_after count places (Ok at) = insert_into (take count places) ++ drop (count + 1) places
   insert_after count places (Err why) = places
+
+  -- The same in a list that may hold `most` elements.
+  abbrev pub held_answer : ℕ → List X → Result ℕ Unplaced
+  held_answer most ys =
+      cond (present ys) (Err (Double (place_of ys)))
+      (cond (nat_lt (length ys) most) (Ok (place_of ys)) (Err Full))
+
+  abbrev pub held_after : List X → Result ℕ Unplaced → List X
+  held_after ys (Ok at) = insert_into ys
+  held_after ys (Err why) = ys

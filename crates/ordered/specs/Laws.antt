@@ -60,3 +60,10 @@ LawfulInsertion key le x count was is (Ok at) =
 LawfulInsertion key le x count was is (Err (Double at)) = Doubled key x (take count was) at × (is ≡ was)
 LawfulInsertion key le x count was is (Err Full) =
     (length was ≤ count) × (is ≡ was) × (Ascending (by_key key le) (take count was) → HasKey key (key x) (take count was) → ⊥)
+
+-- The laws of one insertion into a list that may hold `most` elements, `was` before it and `is` after it.
+abbrev pub LawfulHolding : {X K : Type 0} → (X → K) → (K → K → Bool) → X → ℕ → List X → List X → Result ℕ Unplaced → Type 0
+LawfulHolding key le x most was is (Ok at) = Placed key le x was is at × (length is ≤ most)
+LawfulHolding key le x most was is (Err (Double at)) = Doubled key x was at × (is ≡ was)
+LawfulHolding key le x most was is (Err Full) =
+    (length was ≡ most) × (is ≡ was) × (Ascending (by_key key le) was → HasKey key (key x) was → ⊥)

@@ -8,6 +8,10 @@ ghost use Rattle.std.specs.List.{insert};
 ghost use Rattle.ordered.specs.Insert.{place_of, sought, insert_answer, insert_after};
 ghost use Rattle.ordered.specs.Laws.{by_key, LawfulInsertion};
 
+mod held;
+
+pub use held::Held;
+
 // Elements that are ordered by a key, which may be less than the whole element.
 pub trait Keyed {
     // What elements are ordered by.
@@ -43,44 +47,17 @@ pub enum Unplaced {
 pub fn lex_at_most(a: &[u8], b: &[u8]) -> bool
     ensures { result ≡ lex_le a.now b.now }
 {
-    let mut a = a;
-    let mut b = b;
-    while let [x, xs @ ..] = a {
-        let [y, ys @ ..] = b else {
-            return false;
-        };
-        if x != y {
-            return x < y;
-        }
-        a = xs;
-        b = ys;
-    }
-    true
+    a <= b
 }
 
 // Where `x` belongs among the elements.
 fn place<T: Keyed>(items: &[T], x: &T) -> usize
     ensures { result ≡ place_of (by_key T.Keyed.key T.Keyed.le) x.now items.now }
 {
-    for i in 0..items.len() {
-        if x.at_most(&items[i]) {
-            return i;
-        }
-    }
-    items.len()
-}
-
-// Puts `x` at the place `at`, and moves each element from there to the end one place on.
-fn shift_in<T: Copy>(items: &mut [T], at: usize, count: usize, x: T)
-    requires { (at ≤ count) × (count < length items.old) }
-    ensures { items.new ≡ insert (take count items.old) at x ++ drop (count + 1) items.old }
-{
-    let mut carry = x;
-    for i in at..count + 1 {
-        let next = items[i];
-        items[i] = carry;
-        carry = next;
-    }
+    items
+        .iter()
+        .position(|y| x.at_most(y))
+        .unwrap_or(items.len())
 }
 
 // Where `x` goes, or where an element with its key stands.
@@ -88,7 +65,7 @@ fn seek<T: Keyed>(items: &[T], x: &T) -> Result<usize, usize>
     ensures { result ≡ sought (by_key T.Keyed.key T.Keyed.le) x.now items.now }
 {
     let at = place(items, x);
-    if at < items.len() && items[at].at_most(x) {
+    if items.get(at).is_some_and(|y| y.at_most(x)) {
         Err(at)
     } else {
         Ok(at)
@@ -97,19 +74,23 @@ fn seek<T: Keyed>(items: &[T], x: &T) -> Result<usize, usize>
 
 // Where `x` goes among the first `count` of the places, or why it cannot. A double is told before want of room.
 fn admit<T: Keyed>(items: &[T], count: usize, x: &T) -> Result<usize, Unplaced>
-    ensures answer { result ≡ insert_answer (by_key T.Keyed.key T.Keyed.le) x.now count items.now }
-    ensures refusal { elim result [ Ok at ↦ Unit {0} | Err why ↦ LawfulInsertion T.Keyed.key T.Keyed.le x.now count items.now items.now (Err why) ] }
+    ensures { result ≡ insert_answer (by_key T.Keyed.key T.Keyed.le) x.now count items.now }
 {
-    let held = count.min(items.len());
-    match seek(&items[0..held], x) {
-        Err(at) => Err(Unplaced::Double(at)),
-        Ok(at) => {
-            if count >= items.len() {
-                return Err(Unplaced::Full);
-            }
-            Ok(at)
-        }
+    let held = &items[..count.min(items.len())];
+    let at = seek(held, x).map_err(Unplaced::Double)?;
+    if count >= items.len() {
+        return Err(Unplaced::Full);
     }
+    Ok(at)
+}
+
+// Puts `x` at the place `at`, and moves each element from there to the end one place on.
+fn shift_in<T: Copy>(items: &mut [T], at: usize, count: usize, x: T)
+    requires { (at ≤ count) × (count < length items.old) }
+    ensures { items.new ≡ insert (take count items.old) at x ++ drop (count + 1) items.old }
+{
+    items[count] = x;
+    items[at..count + 1].rotate_right(1);
 }
 
 // Inserts `x` among the first `count` of the places and tells where it stands. Those are read as they are;
@@ -119,11 +100,7 @@ pub fn insert<T: Keyed + Copy>(items: &mut [T], count: usize, x: T) -> Result<us
     ensures after { items.new ≡ insert_after (by_key T.Keyed.key T.Keyed.le) x count items.old result }
     ensures lawful { LawfulInsertion T.Keyed.key T.Keyed.le x count items.old items.new result }
 {
-    match admit(items, count, &x) {
-        Err(why) => Err(why),
-        Ok(at) => {
-            shift_in(items, at, count, x);
-            Ok(at)
-        }
-    }
+    let at = admit(items, count, &x)?;
+    shift_in(items, at, count, x);
+    Ok(at)
 }

@@ -1,10 +1,12 @@
 -- The law of a rule and its test say the same; a table's law follows from what its type keeps.
-use Rattle.std.specs.Prelude.{◌≡◌, ℕ, zero, suc, ◌+◌, ◌<◌, ◌≤◌, Bool, true, false, List, [], ◌∷◌, map, length, take, Some, None, Decides, Option, nat_lt, slice_index_or, refl}
+use Rattle.std.specs.Prelude.{◌≡◌, ℕ, zero, suc, ◌<◌, ◌≤◌, Bool, true, false, List, [], ◌∷◌, map, length, Some, None, Ok, Err, Decides, Option, Result, nat_lt, slice_index_or, refl}
 use Rattle.std.proofs.Common.{arith, sym, subst, ◌∙◌, inl, inr}
 use Rattle.std.proofs.lemmas.Bool.{ltb-true, lt-ltb, eqb-true, eq-eqb, and_parts, and_from, both_ways}
-use Rattle.std.proofs.lemmas.List.{length-take, length-take-le, get_or_past, length-map}
+use Rattle.std.proofs.lemmas.List.{get_or_past, length-map}
 use Rattle.ordered.specs.Lex.{lex_le}
-use Rattle.ordered.specs.Laws.{In, Placed}
+use Rattle.ordered.specs.declared.Unplaced.{Unplaced}
+use Rattle.ordered.specs.declared.Unplaced.TheVariants.{Double, Full}
+use Rattle.ordered.specs.Laws.{In, Placed, LawfulHolding}
 use Rattle.ordered.proofs.Orders.{ascending_from_test, test_from_ascending}
 use Rattle.profile.specs.declared.Kind.{Kind}
 use Rattle.profile.specs.declared.Kind.TheVariants.{Open, Step, Close}
@@ -71,21 +73,20 @@ one_more was is r at p new old up = (
   test_from_ascending rule_le is (p.ascending (ascending_from_test rule_le was up)),
 )
 
-pub table_law : (rules : List Rule) (count state symbol : ℕ) → length rules ≡ 96 → count ≤ 96 → all_lawful event_kind (take count rules) ≡ true → rules_ascend (take count rules) ≡ true → state < 8 → symbol < 16 → LawfulTable (take count rules) (state, symbol)
-table_law rules count state symbol full few law up hs hx = record {
-  few = (let n = length-take-le count rules (omega arith) in omega arith);
-  lawful = each_lawful event_kind (take count rules) law;
-  ascending = ascending_from_test rule_le (take count rules) up;
+-- an insertion keeps what a table keeps of its rules, whatever it answers
+pub still_kept : (was is : List Rule) (r : Rule) (told : Result ℕ Unplaced) → LawfulHolding rule_key lex_le r 96 was is told → lawful_rule event_kind r ≡ true → length was ≤ 96 → all_lawful event_kind was ≡ true → rules_ascend was ≡ true → (length is ≤ 96) × (all_lawful event_kind is ≡ true) × (rules_ascend is ≡ true)
+still_kept was is r (Ok at) h new few old up = let kept = one_more was is r at h.0 new old up in (h.1, kept.0, kept.1)
+still_kept was is r (Err (Double at)) h new few old up = rw h.1 (few, old, up)
+still_kept was is r (Err Full) h new few old up = rw h.1 (few, old, up)
+
+pub table_law : (rules : List Rule) (state symbol : ℕ) → length rules ≤ 96 → all_lawful event_kind rules ≡ true → rules_ascend rules ≡ true → state < 8 → symbol < 16 → LawfulTable rules (state, symbol)
+table_law rules state symbol few law up hs hx = record {
+  few = few;
+  lawful = each_lawful event_kind rules law;
+  ascending = ascending_from_test rule_le rules up;
   state = hs;
   symbol = hx;
 }
-
-pub room_was_left : (was is : List Rule) (r : Rule) (count at : ℕ) → length was ≡ 96 → length is ≡ 96 → count ≤ 96 → Placed rule_key lex_le r (take count was) (take (count + 1) is) at → count + 1 ≤ 96
-room_was_left was is r count at full kept few p =
-    let a = length-take (count + 1) is in
-    let b = length-take-le count was (omega arith) in
-    let l = p.longer in
-    omega arith
 
 -- the law of a table, read as that of a profile with one rule to a slot
 slots_lawful : (rs : List Rule) → ((r : Rule) → In r rs → LawfulRule event_kind r) → LawfulSlots event_kind (map Some rs)

@@ -1,5 +1,7 @@
 -- The table profile.
-use Rattle.std.specs.Prelude.{ℕ, ◌<◌, ◌≤◌, cond, ◌&&◌, List, length, take, Ok, Err, Result, nat_lt}
+use Rattle.std.specs.Prelude.{ℕ, ◌<◌, ◌≤◌, cond, ◌&&◌, List, length, Ok, Err, Result, nat_lt}
+use Rattle.ordered.specs.declared.Unplaced.{Unplaced}
+use Rattle.ordered.specs.declared.Unplaced.TheVariants as Placing
 use Rattle.ordered.specs.Insert.{place_of, present, insert_into}
 use Rattle.profile.specs.declared.Rule.{Rule}
 use Rattle.profile.specs.declared.table.Table.{Table}
@@ -12,10 +14,15 @@ use Rattle.profile.specs.Rules.{lawful_rule, LawfulRule, rule_le}
 
 -- the rules of a table, in their order, and its start: a state and the symbol on the stack
 abbrev pub table_rules : Table → List Rule
-table_rules t = take t.count t.rules
+table_rules t = t.rules
 
 abbrev pub table_start : Table → ℕ × ℕ
 table_start t = (t.state, t.symbol)
+
+-- why a rule was not placed, as a table tells it
+abbrev pub not_added : Unplaced → NotAdded
+not_added (Placing.Double slot) = Double slot
+not_added Placing.Full = Full
 
 -- what adding a rule to the rules of a table answers: its slot, or why it was not added
 abbrev pub add_answer : Rule → List Rule → Result ℕ NotAdded

@@ -29,8 +29,9 @@ pub use table::Table;
 pub use table::calls::{NotAdded, OutOfRange};
 
 // How binding a rule is: what may happen, or what also must. A must rule counts as a may rule too.
-#[derive(Clone, Copy, PartialEq, Eq, Debug)]
+#[derive(Clone, Copy, PartialEq, Eq, Debug, Default)]
 pub enum Mode {
+    #[default]
     May,
     Must,
 }
@@ -70,7 +71,7 @@ pub fn kind_of(event: u8) -> Option<Kind>
 
 // A rule: in a state with a symbol on top, an event leads to the next state and puts the upper symbol above
 // the lower one in the place of the top.
-#[derive(Clone, Copy, PartialEq, Eq, Debug)]
+#[derive(Clone, Copy, PartialEq, Eq, Debug, Default)]
 pub struct Rule {
     pub mode: Mode,
     pub state: u8,

@@ -1,15 +1,11 @@
+use Rattle.std.proofs.Common.{◌≡◌, true, false, ◌∙◌, rules}
+use Rattle.std.proofs.lemmas.Iterator.{YieldsList-from_slice, IsFirst-from_position}
 use Rattle.ordered.specs.Laws.{by_key}
-use Rattle.ordered.proofs.Scans.{scan_here, scan_next, scan_end}
+use Rattle.ordered.proofs.Scans.{found}
 use Rattle.ordered.proofs.place.Goals as goal
-
-pub returns-then-at_most : goal.returns-then-at_most
-returns-then-at_most g c =
-    scan_here (by_key g.T.Keyed.key g.T.Keyed.le) c.args.x.now c.args.items.now c.loop-i.i c.index-items-i.result c.loop-i-test.true c.index-items-i.is c.if-at_most.ensures c.loop-i.invariant
-
-pub loop-i-preserved : goal.loop-i-preserved
-loop-i-preserved g c =
-    scan_next (by_key g.T.Keyed.key g.T.Keyed.le) c.args.x.now c.args.items.now c.loop-i.i c.index-items-i.result c.loop-i-test.true c.index-items-i.is c.if-at_most.ensures c.loop-i.invariant
 
 pub returns : goal.returns
 returns g c =
-    scan_end (by_key g.T.Keyed.key g.T.Keyed.le) c.args.x.now c.args.items.now c.loop-i.i c.loop-i-test.false c.loop-i.auto.i-end c.loop-i.invariant
+    let test = by_key g.T.Keyed.key g.T.Keyed.le in
+    let x = c.args.x.now in
+    c.unwrap_or.ensures ∙ found test x c.args.items.now c.position.result (IsFirst-from_position _ _ c.position.result (λ y. test x y ≡ true) (λ y. test x y ≡ false) c.position.ensures.ran (YieldsList-from_slice c.args.items.now c.iter.ensures.rest) (λ y q k. search rules) (λ y q k. search rules))

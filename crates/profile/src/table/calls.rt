@@ -1,10 +1,10 @@
 // Making a table profile and asking it.
 ghost use Rattle.std.specs.Prelude.{◌≡◌, [], map, length, Some, None, slice_index_or};
-ghost use Rattle.profile.specs.Tables.{table_rules, table_start, add_answer, add_after, start_answer, start_after, LawfulTable};
+ghost use Rattle.profile.specs.Tables.{table_rules, table_start, not_added, add_answer, add_after, start_answer, start_after, LawfulTable};
 ghost use Rattle.profile.specs.Laws.{table_law, table_profile_law};
 
-use crate::{Mode, Profile, Rule, Table};
-use ordered::Unplaced;
+use crate::{Profile, Rule, Table};
+use ordered::{Held, Unplaced};
 
 // Why a rule was not added to a table.
 #[derive(Clone, Copy, PartialEq, Eq, Debug)]
@@ -17,6 +17,17 @@ pub enum NotAdded {
     Full,
 }
 
+impl From<Unplaced> for NotAdded {
+    ghost from_gives = { λ why e. e ≡ not_added why };
+
+    fn from(why: Unplaced) -> NotAdded {
+        match why {
+            Unplaced::Double(slot) => NotAdded::Double(slot),
+            Unplaced::Full => NotAdded::Full,
+        }
+    }
+}
+
 // A start is a state below 8 and a symbol below 16.
 #[derive(Clone, Copy, PartialEq, Eq, Debug)]
 pub struct OutOfRange;
@@ -27,18 +38,8 @@ impl Table {
         ensures rules { table_rules result ≡ [] }
         ensures start { table_start result ≡ (0, 0) }
     {
-        let blank = Rule {
-            mode: Mode::May,
-            state: 0,
-            top: 0,
-            event: 0,
-            next: 0,
-            upper: 0,
-            lower: 0,
-        };
         Table {
-            rules: [blank; 96],
-            count: 0,
+            rules: Held::new(Rule::default()),
             state: 0,
             symbol: 0,
         }
@@ -53,14 +54,8 @@ impl Table {
         if !rule.is_lawful() {
             return Err(NotAdded::Unlawful);
         }
-        match ordered::insert(&mut self.rules, self.count, rule) {
-            Ok(slot) => {
-                self.count += 1;
-                Ok(slot)
-            }
-            Err(Unplaced::Double(slot)) => Err(NotAdded::Double(slot)),
-            Err(Unplaced::Full) => Err(NotAdded::Full),
-        }
+        let slot = self.rules.insert(rule)?;
+        Ok(slot)
     }
 
     // Sets the start; one out of range is refused and leaves the table as it was.
@@ -82,7 +77,7 @@ impl Table {
         ensures value { result.now ≡ table_rules self.now }
         ensures law { LawfulTable (table_rules self.now) (table_start self.now) }
     {
-        &self.rules[0..self.count]
+        self.rules.as_slice()
     }
 
     // What it answers as a profile, by its rules: the number of slots, slot i and the start.
@@ -95,36 +90,19 @@ impl Table {
     }
 }
 
-// The slots of a row of rules, one to a slot.
-fn rule_slots(rules: &[Rule]) -> usize
-    ensures { result ≡ length (map Some rules.now) }
-{
-    rules.len()
-}
-
-fn rule_slot(rules: &[Rule], i: usize) -> Option<Rule>
-    ensures { result ≡ slice_index_or (map Some rules.now) i None }
-{
-    if i < rules.len() {
-        Some(rules[i])
-    } else {
-        None
-    }
-}
-
 impl Profile for Table {
     ghost rules = { λ t. map Some (table_rules t) };
 
     ghost origin = { table_start };
 
-    ghost lawful = { λ t. table_profile_law _ _ (table_law t.rules t.count t.state t.symbol t.full t.few t.lawful t.ascending t.state_in_range t.symbol_in_range) };
+    ghost lawful = { λ t. table_profile_law _ _ (table_law t.rules t.state t.symbol t.few t.lawful t.ascending t.state_in_range t.symbol_in_range) };
 
     fn slots(&self) -> usize {
-        rule_slots(self.rules())
+        self.rules().len()
     }
 
     fn slot(&self, i: usize) -> Option<Rule> {
-        rule_slot(self.rules(), i)
+        self.rules().get(i).copied()
     }
 
     fn start(&self) -> (u8, u8) {

@@ -1,11 +1,7 @@
-use Rattle.std.proofs.Common.{rules}
 use Rattle.profile.specs.Laws.{table_law}
 use Rattle.profile.proofs.table.Table.rules.Goals as goal
 
-pub returns : goal.returns
-returns c =
+pub returns-clause-law : goal.returns-clause-law
+returns-clause-law c =
     let t = c.args.self.now in
-    record {
-      value = search rules;
-      law = table_law t.rules t.count t.state t.symbol t.full t.few t.lawful t.ascending t.state_in_range t.symbol_in_range;
-    }
+    table_law t.rules t.state t.symbol t.few t.lawful t.ascending t.state_in_range t.symbol_in_range
