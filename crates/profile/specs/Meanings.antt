@@ -7,12 +7,12 @@ use Rattle.profile.specs.declared.Mode.{Mode}
 use Rattle.profile.specs.declared.Mode.TheVariants.{May, Must}
 use Rattle.profile.specs.declared.Rule.{Rule}
 use Rattle.profile.specs.Rules.{rule_key}
-use Rattle.profile.specs.Profiles.{Allows, Demands, SomeSlot, MayRule, MustRule}
+use Rattle.profile.specs.Profiles.{Allows, Demands, SomeSlot, MayRule, MustRule, JustWhen}
 use Rattle.profile.specs.Opens.{free_rule, open_slot, open_slots, Free, Opened}
 use Rattle.profile.specs.Layers.{bare_rule, bare_slot, bare_slots, Bared, loosen_slot, loosen_slots, Loosened, rename_rule, rename_slot, rename_slots, EventReplaced, SlotReplaced, Renamed}
 use Rattle.profile.specs.Layerings.{slot_mapped}
 
--- from what holds of a slot above to what holds of the slot below it, and back
+-- what holds of a slot above just when it does of the slot below holds of some slot above just when of some below
 module _ (f : Option Rule → Option Rule) (P Q : Option Rule → Type 0) where
   some_below : ((s : Option Rule) → P (f s) → Q s) → (slots : List (Option Rule)) → SomeSlot P (map f slots) → SomeSlot Q slots
   some_below at [] h = absurd h
@@ -24,128 +24,80 @@ module _ (f : Option Rule → Option Rule) (P Q : Option Rule → Type 0) where
   some_above at (s ∷ ss) (inl h) = inl (at s h)
   some_above at (s ∷ ss) (inr h) = inr (some_above at ss h)
 
+  some_mapped : ((s : Option Rule) → JustWhen (P (f s)) (Q s)) → (slots : List (Option Rule)) → JustWhen (SomeSlot P (map f slots)) (SomeSlot Q slots)
+  some_mapped at slots = (some_below (λ s. (at s).0) slots, some_above (λ s. (at s).1) slots)
+
 -- rules with the same key have the same event
 same_event : (s r : Rule) → rule_key s ≡ rule_key r → s.event ≡ r.event
-same_event s r e = ap (λ (l : List ℕ). get_or l 2 0) e
-
--- May is not Must
-modes_differ : May ≡ Must → ⊥
-modes_differ e = let z : ◌≡◌ {A = ℕ} 0 1 = cc in omega arith
+same_event s r e = cc
 
 -- bare
-bare_demands : (r : Rule) (s : Option Rule) → Demands r (bare_slot s) → Demands r s
-bare_demands r None d = absurd d
-bare_demands r (Some s) d = at s.mode refl d where
-  at : (m : Mode) → s.mode ≡ m → Demands r (bare_rule m s) → Demands r (Some s)
-  at May is b = absurd b
-  at Must is b = b
+bare_demands : (r : Rule) (s : Option Rule) → JustWhen (Demands r (bare_slot s)) (Demands r s)
+bare_demands r None = (λ d. d, λ d. d)
+bare_demands r (Some s) = at s.mode refl where
+  at : (m : Mode) → s.mode ≡ m → JustWhen (Demands r (bare_rule m s)) (Demands r (Some s))
+  at May is = (λ b. absurd b, λ d. cc)
+  at Must is = (λ d. d, λ d. d)
 
-bare_allows : (r : Rule) (s : Option Rule) → Allows r (bare_slot s) → Demands r s
-bare_allows r None a = absurd a
-bare_allows r (Some s) a = at s.mode refl a where
-  at : (m : Mode) → s.mode ≡ m → Allows r (bare_rule m s) → Demands r (Some s)
-  at May is b = absurd b
-  at Must is b = (is, b)
-
-demands_bare : (r : Rule) (s : Option Rule) → Demands r s → Demands r (bare_slot s)
-demands_bare r None d = absurd d
-demands_bare r (Some s) d = at s.mode d.0 where
-  at : (m : Mode) → m ≡ Must → Demands r (bare_rule m s)
-  at May is = absurd (modes_differ is)
-  at Must is = d
-
-allows_bare : (r : Rule) (s : Option Rule) → Demands r s → Allows r (bare_slot s)
-allows_bare r None d = absurd d
-allows_bare r (Some s) d = at s.mode d.0 where
-  at : (m : Mode) → m ≡ Must → Allows r (bare_rule m s)
-  at May is = absurd (modes_differ is)
-  at Must is = d.1
+bare_allows : (r : Rule) (s : Option Rule) → JustWhen (Allows r (bare_slot s)) (Demands r s)
+bare_allows r None = (λ d. d, λ d. d)
+bare_allows r (Some s) = at s.mode refl where
+  at : (m : Mode) → s.mode ≡ m → JustWhen (Allows r (bare_rule m s)) (Demands r (Some s))
+  at May is = (λ b. absurd b, λ d. cc)
+  at Must is = (λ a. (is, a), λ d. d.1)
 
 pub bare_means : (slots : List (Option Rule)) → Bared slots (bare_slots slots)
 bare_means slots = record {
-  must = λ r. (some_below bare_slot (Demands r) (Demands r) (bare_demands r) slots, some_above bare_slot (Demands r) (Demands r) (demands_bare r) slots);
-  may = λ r. (some_below bare_slot (Allows r) (Demands r) (bare_allows r) slots, some_above bare_slot (Allows r) (Demands r) (allows_bare r) slots);
+  must = λ r. some_mapped bare_slot (Demands r) (Demands r) (bare_demands r) slots;
+  may = λ r. some_mapped bare_slot (Allows r) (Demands r) (bare_allows r) slots;
 }
 
 -- loosen
-loosen_allows : (events : List Bool) (r : Rule) (s : Option Rule) → Allows r (loosen_slot events s) → Allows r s
-loosen_allows events r None a = absurd a
-loosen_allows events r (Some s) a = a
+module _ (events : List Bool) (r : Rule) where
+  -- the event of r is not in the set
+  abbrev Spared : Type 0
+  Spared = get_or events r.event false ≡ false
 
-allows_loosen : (events : List Bool) (r : Rule) (s : Option Rule) → Allows r s → Allows r (loosen_slot events s)
-allows_loosen events r None a = absurd a
-allows_loosen events r (Some s) a = a
+  loosen_allows : (s : Option Rule) → JustWhen (Allows r (loosen_slot events s)) (Allows r s)
+  loosen_allows None = (λ a. a, λ a. a)
+  loosen_allows (Some s) = (λ a. a, λ a. a)
 
-still_must : (b : Bool) (m : Mode) → cond b May m ≡ Must → (b ≡ false) × (m ≡ Must)
-still_must true m e = absurd (modes_differ e)
-still_must false m e = (refl, e)
+  still_must : (b : Bool) (m : Mode) → cond b May m ≡ Must → (b ≡ false) × (m ≡ Must)
+  still_must true m e = cc
+  still_must false m e = (refl, e)
 
-loosen_demands : (events : List Bool) (r : Rule) (s : Option Rule) → Demands r (loosen_slot events s) → Demands r s
-loosen_demands events r None d = absurd d
-loosen_demands events r (Some s) d = ((still_must (get_or events s.event false) s.mode d.0).1, d.1)
+  loosen_demands : (s : Option Rule) → JustWhen (Demands r (loosen_slot events s)) (Demands r s × Spared)
+  loosen_demands None = (λ d. absurd d, λ d. d.0)
+  loosen_demands (Some s) = (
+    λ d. let p = still_must (get_or events s.event false) s.mode d.0 in
+        ((p.1, d.1), ap (λ (e : ℕ). get_or events e false) (sym (same_event s r d.1)) ∙ p.0),
+    λ d. (ap (λ (b : Bool). cond b May s.mode) (ap (λ (e : ℕ). get_or events e false) (same_event s r d.0.1) ∙ d.1) ∙ d.0.0, d.0.1),
+  )
 
-loosen_spares : (events : List Bool) (r : Rule) (s : Option Rule) → Demands r (loosen_slot events s) → get_or events r.event false ≡ false
-loosen_spares events r None d = absurd d
-loosen_spares events r (Some s) d =
-    ap (λ (e : ℕ). get_or events e false) (sym (same_event s r d.1)) ∙ (still_must (get_or events s.event false) s.mode d.0).0
-
-demands_loosen : (events : List Bool) (r : Rule) → get_or events r.event false ≡ false → (s : Option Rule) → Demands r s → Demands r (loosen_slot events s)
-demands_loosen events r out None d = absurd d
-demands_loosen events r out (Some s) d =
-    (ap (λ (b : Bool). cond b May s.mode) (ap (λ (e : ℕ). get_or events e false) (same_event s r d.1) ∙ out) ∙ d.0, d.1)
+  some_spared : (slots : List (Option Rule)) → JustWhen (SomeSlot (λ s. Demands r s × Spared) slots) (MustRule slots r × Spared)
+  some_spared [] = (λ h. absurd h, λ h. h.0)
+  some_spared (s ∷ ss) = let p = some_spared ss in (
+    elim [ inl h ↦ (inl h.0, h.1) | inr h ↦ let q = p.0 h in (inr q.0, q.1) ],
+    λ h. elim h.0 [ inl d ↦ inl (d, h.1) | inr d ↦ inr (p.1 (d, h.1)) ],
+  )
 
 pub loosen_means : (events : List Bool) (slots : List (Option Rule)) → Loosened events slots (loosen_slots events slots)
 loosen_means events slots = record {
-  may = λ r. (some_below (loosen_slot events) (Allows r) (Allows r) (loosen_allows events r) slots, some_above (loosen_slot events) (Allows r) (Allows r) (allows_loosen events r) slots);
-  must = λ r. (
-    λ h. (some_below (loosen_slot events) (Demands r) (Demands r) (loosen_demands events r) slots h, shown_below r slots h),
-    λ h. some_above (loosen_slot events) (Demands r) (Demands r) (demands_loosen events r h.1) slots h.0,
-  );
-} where
-  shown_below : (r : Rule) (slots : List (Option Rule)) → MustRule (loosen_slots events slots) r → get_or events r.event false ≡ false
-  shown_below r [] h = absurd h
-  shown_below r (s ∷ ss) (inl h) = loosen_spares events r s h
-  shown_below r (s ∷ ss) (inr h) = shown_below r ss h
+  may = λ r. some_mapped (loosen_slot events) (Allows r) (Allows r) (loosen_allows events r) slots;
+  must = λ r.
+      let p = some_mapped (loosen_slot events) (Demands r) (λ s. Demands r s × Spared events r) (loosen_demands events r) slots in
+      let q = some_spared events r slots in
+      (λ h. q.0 (p.0 h), λ h. p.1 (q.1 h));
+}
 
 -- rename
 module _ (table : EventTable) where
-  new_key : List ℕ → List ℕ
-  new_key [] = []
-  new_key (state ∷ []) = []
-  new_key (state ∷ top ∷ []) = []
-  new_key (state ∷ top ∷ event ∷ rest) = state ∷ top ∷ get_or table.events event 0 ∷ rest
-
-  -- the key of a renamed rule depends only on the key
-  renamed_key : (u s : Rule) → rule_key u ≡ rule_key s → rule_key (rename_rule table u) ≡ rule_key (rename_rule table s)
-  unfolding new_key
-  renamed_key u s e = ap new_key e
-
   -- the rule s in the mode of r
   abbrev in_mode_of : Rule → Rule → Rule
   in_mode_of r s = record { mode = r.mode; state = s.state; top = s.top; event = s.event; next = s.next; upper = s.upper; lower = s.lower }
 
   key_replaced : (r s : Rule) → rule_key (rename_rule table s) ≡ rule_key r → EventReplaced table (in_mode_of r s) r
-  key_replaced r s e = record {
-    mode = refl;
-    state = at 0;
-    top = at 1;
-    event = at 2;
-    next = at 3;
-    upper = at 4;
-    lower = at 5;
-  } where
-    at : (i : ℕ) → get_or (rule_key r) i 0 ≡ get_or (rule_key (rename_rule table s)) i 0
-    at i = ap (λ (l : List ℕ). get_or l i 0) (sym e)
-
-  replaced_key : (r s : Rule) → EventReplaced table s r → rule_key (rename_rule table s) ≡ rule_key r
-  replaced_key r s e =
-      let state = e.state in
-      let top = e.top in
-      let event = e.event in
-      let next = e.next in
-      let upper = e.upper in
-      let lower = e.lower in
-      cc
+  key_replaced r s e = record { mode = refl; state = cc; top = cc; event = cc; next = cc; upper = cc; lower = cc }
 
   slot_replaced : (s : Option Rule) → SlotReplaced table s (rename_slot table s)
   slot_replaced None = tt
@@ -167,19 +119,19 @@ module _ (table : EventTable) where
   must_below r (Some s ∷ ss) (inl h) = (in_mode_of r s, inl (h.0, refl), key_replaced r s h.1)
   must_below r (s ∷ ss) (inr h) = let p = must_below r ss h in (p.0, inr p.1, p.2)
 
-  allows_renamed : (r s : Rule) → rule_key (rename_rule table s) ≡ rule_key r → (u : Option Rule) → Allows s u → Allows r (rename_slot table u)
+  allows_renamed : (r s : Rule) → EventReplaced table s r → (u : Option Rule) → Allows s u → Allows r (rename_slot table u)
   allows_renamed r s e None a = absurd a
-  allows_renamed r s e (Some u) a = renamed_key u s a ∙ e
+  allows_renamed r s e (Some u) a = cc
 
-  demands_renamed : (r s : Rule) → rule_key (rename_rule table s) ≡ rule_key r → (u : Option Rule) → Demands s u → Demands r (rename_slot table u)
+  demands_renamed : (r s : Rule) → EventReplaced table s r → (u : Option Rule) → Demands s u → Demands r (rename_slot table u)
   demands_renamed r s e None d = absurd d
-  demands_renamed r s e (Some u) d = (d.0, renamed_key u s d.1 ∙ e)
+  demands_renamed r s e (Some u) d = (d.0, cc)
 
   pub rename_means : (slots : List (Option Rule)) → Renamed table slots (rename_slots table slots)
   rename_means slots = record {
     slot = slots_replaced slots;
-    may = λ r. (may_below r slots, λ h. some_above (rename_slot table) (Allows r) (Allows h.0) (allows_renamed r h.0 (replaced_key r h.0 h.2)) slots h.1);
-    must = λ r. (must_below r slots, λ h. some_above (rename_slot table) (Demands r) (Demands h.0) (demands_renamed r h.0 (replaced_key r h.0 h.2)) slots h.1);
+    may = λ r. (may_below r slots, λ h. some_above (rename_slot table) (Allows r) (Allows h.0) (allows_renamed r h.0 h.2) slots h.1);
+    must = λ r. (must_below r slots, λ h. some_above (rename_slot table) (Demands r) (Demands h.0) (demands_renamed r h.0 h.2) slots h.1);
   }
 
 -- the open profile, over the events from a on
@@ -200,7 +152,7 @@ module _ (events : List Bool) (r : Rule) where
   not_demanded : (e : ℕ) → Demands r (open_slot events e) → ⊥
   not_demanded e d = at (get_or events e false) d where
     at : (b : Bool) → Demands r (cond b (Some (free_rule e)) None) → ⊥
-    at true h = modes_differ h.0
+    at true h = cc
     at false h = h
 
   may_told : (a n : ℕ) → MayRule (map (open_slot events) (range_with_len a n)) r → (e : ℕ) × (e < a + n) × Told e
@@ -223,26 +175,12 @@ module _ (events : List Bool) (r : Rule) where
 
 -- a rule is free just when it has the key of the rule of its event, which is in the set
 key_free : (events : List Bool) (r : Rule) (e : ℕ) → e < 12 → Told events r e → Free events r
-key_free events r e h t = record {
-  there = subst (λ (v : ℕ). v < 12) (at 2) h;
-  event = ap (λ (v : ℕ). get_or events v false) (sym (at 2)) ∙ t.0;
-  state = sym (at 0);
-  top = sym (at 1);
-  next = sym (at 3);
-  upper = sym (at 4);
-  lower = sym (at 5);
-} where
-  at : (i : ℕ) → get_or (rule_key (free_rule e)) i 0 ≡ get_or (rule_key r) i 0
-  at i = ap (λ (l : List ℕ). get_or l i 0) t.1
+key_free events r e h t =
+    let is : e ≡ r.event = cc in
+    record { there = subst (λ (v : ℕ). v < 12) is h; event = ap (λ (v : ℕ). get_or events v false) (sym is) ∙ t.0; state = cc; top = cc; next = cc; upper = cc; lower = cc }
 
 free_key : (events : List Bool) (r : Rule) → Free events r → rule_key (free_rule r.event) ≡ rule_key r
-free_key events r f =
-    let state = f.state in
-    let top = f.top in
-    let next = f.next in
-    let upper = f.upper in
-    let lower = f.lower in
-    cc
+free_key events r f = cc
 
 pub open_means : (events : List Bool) → Opened events (open_slots events)
 open_means events = record {
