@@ -3,8 +3,9 @@ use Rattle.std.proofs.Common.{◌≡◌, ℕ, zero, suc, ◌+◌, ◌-◌, ◌<�
 use Rattle.std.proofs.lemmas.List.{map-append}
 use Rattle.std.proofs.lemmas.Bool.{cond-true, cond-false, cases_Bool}
 use Rattle.std.specs.Str.{bytes_eq}
+use Rattle.text.specs.declared.fault.WordCause.{WordCause}
+use Rattle.text.specs.declared.fault.Cause.{Cause}
 use Rattle.text.specs.declared.fault.Fault.{Fault}
-use Rattle.text.specs.declared.fault.WordFault.{WordFault}
 use Rattle.text.specs.declared.fault.WordCause.TheVariants.{WordTooLong}
 use Rattle.text.specs.declared.words.Due.{Due}
 use Rattle.text.specs.declared.words.Word.{Word}
@@ -37,7 +38,7 @@ cut_shrinks k b t p n w some true h =
     let left = length-drop (n - p) (b ∷ t) in
     omega arith
 
-at_shrinks : (k : Due) (b : ℕ) (t : List ℕ) (p : ℕ) (w : Step Spelled) → is_blank b ≡ false → (r : Result ℕ WordFault) → run_end (b ∷ t) p ≡ r → found (cut_at k (b ∷ t) p r) ≡ Ok (Some w) → length w.rest.bytes < length (b ∷ t)
+at_shrinks : (k : Due) (b : ℕ) (t : List ℕ) (p : ℕ) (w : Step Spelled) → is_blank b ≡ false → (r : Result ℕ (Fault WordCause)) → run_end (b ∷ t) p ≡ r → found (cut_at k (b ∷ t) p r) ≡ Ok (Some w) → length w.rest.bytes < length (b ∷ t)
 at_shrinks k b t p w nb (Err f) e h = impossible (cc)
 at_shrinks k b t p w nb (Ok n) e h = cut_shrinks k b t p n w (run_some b t p n nb e) (leb (n - p) 16) h
 
@@ -49,7 +50,7 @@ next_shrinks k (b ∷ t) p w h =
       | inr off ↦ at_shrinks k b t p w off (run_end (b ∷ t) p) refl (sym (cond-false _ _ _ off) ∙ h)
     ]
 
-there_some : (e : ℕ) (r : Result (Option (Step Spelled)) WordFault) (w : Step Spelled) → there e r ≡ Ok w → r ≡ Ok (Some w)
+there_some : (e : ℕ) (r : Result (Option (Step Spelled)) (Fault WordCause)) (w : Step Spelled) → there e r ≡ Ok w → r ≡ Ok (Some w)
 there_some e (Ok None) w h = impossible (cc)
 there_some e (Ok (Some x)) w h = let f : x ≡ w = cc in ap (λ (y : Step Spelled). Ok (Some y)) f
 there_some e (Err f) w h = impossible (cc)
@@ -87,7 +88,7 @@ join_shrinks s c h =
     let same : length second.0.rest.bytes ≡ length c.rest.bytes = ap (λ (x : Step Call). length x.rest.bytes) (ok_same second.2) in
     omega arith
 
-here_keeps : (s : Rest) (v : Call) (c : Step Call) → ◌≡◌ {A = Result (Step Call) Fault} (Ok (record { value = v; rest = s })) (Ok c) → length c.rest.bytes ≤ length s.bytes
+here_keeps : (s : Rest) (v : Call) (c : Step Call) → ◌≡◌ {A = Result (Step Call) (Fault Cause)} (Ok (record { value = v; rest = s })) (Ok c) → length c.rest.bytes ≤ length s.bytes
 here_keeps s v c h = let same : length s.bytes ≡ length c.rest.bytes = ap (λ (x : Step Call). length x.rest.bytes) (ok_same h) in omega arith
 
 pub call_shrinks : (w : Step Spelled) (c : Step Call) → read_call w ≡ Ok c → length c.rest.bytes ≤ length w.rest.bytes
@@ -147,22 +148,22 @@ ended (suc k) cs s h = ap (call_or_end (more_calls k) cs) h
 pub all_so_far : (from : Rest) (ts : List Turn) (s : Rest) → next_word Keyword s ≡ Ok None → SoFar from ts s → all_calls from ≡ Ok (calls_of ts)
 all_so_far from ts s h so = sym so.same ∙ ended (length from.bytes - length ts) (calls_of ts) s h
 
-some_left : (k : Due) (t : List ℕ) (p : ℕ) (f : WordFault) → next_from k t p ≡ Err f → 1 ≤ length t
+some_left : (k : Due) (t : List ℕ) (p : ℕ) (f : Fault WordCause) → next_from k t p ≡ Err f → 1 ≤ length t
 some_left k [] p f h = impossible (cc)
 some_left k (b ∷ t) p f h = omega arith
 
-pub word_fault_so_far : (from : Rest) (ts : List Turn) (s : Rest) (f : WordFault) → next_word Keyword s ≡ Err f → SoFar from ts s → all_calls from ≡ Err (word_fault_in f)
+pub word_fault_so_far : (from : Rest) (ts : List Turn) (s : Rest) (f : Fault WordCause) → next_word Keyword s ≡ Err f → SoFar from ts s → all_calls from ≡ Err (word_fault_in f)
 word_fault_so_far from ts s f h so =
     let l = some_left Keyword s.bytes s.at f h in
     let room = so.room in
     let fuel : length from.bytes - length ts ≡ suc (length from.bytes - length ts - 1) = omega arith in
     sym so.same ∙ ap (λ k. more_calls k (calls_of ts) s) fuel ∙ ap (call_or_end (more_calls (length from.bytes - length ts - 1)) (calls_of ts)) h
 
-pub call_fault_so_far : (from : Rest) (ts : List Turn) (s : Rest) (w : Step Spelled) (f : Fault) → next_word Keyword s ≡ Ok (Some w) → read_call w ≡ Err f → SoFar from ts s → all_calls from ≡ Err f
+pub call_fault_so_far : (from : Rest) (ts : List Turn) (s : Rest) (w : Step Spelled) (f : Fault Cause) → next_word Keyword s ≡ Ok (Some w) → read_call w ≡ Err f → SoFar from ts s → all_calls from ≡ Err f
 call_fault_so_far from ts s w f n h so =
     let l = next_shrinks Keyword s.bytes s.at w n in
     let room = so.room in
     let fuel : length from.bytes - length ts ≡ suc (length from.bytes - length ts - 1) = omega arith in
-    let more : List Call → Rest → Result (List Call) Fault = more_calls (length from.bytes - length ts - 1) in
+    let more : List Call → Rest → Result (List Call) (Fault Cause) = more_calls (length from.bytes - length ts - 1) in
     sym so.same ∙ ap (λ k. more_calls k (calls_of ts) s) fuel ∙ ap (call_or_end more (calls_of ts)) n ∙
-    ap (λ (r : Result (Step Call) Fault). and_then r (λ c. more (calls_of ts ++ c.value ∷ []) c.rest)) h
+    ap (λ (r : Result (Step Call) (Fault Cause)). and_then r (λ c. more (calls_of ts ++ c.value ∷ []) c.rest)) h

@@ -9,7 +9,7 @@ ghost use Rattle.calls.specs.CallGrammar.{CallsJudged, SaysOne};
 
 use book::run::{Call, Turn};
 use std::alloc::{AllocFailed, Global};
-use text::fault::{Fault, SectionCause, WordFault};
+use text::fault::{Fault, SectionCause, WordCause};
 use text::reader::Reader;
 use text::sections::{alike, keyword, number};
 use text::words::{Due, Word, judge_length};
@@ -38,10 +38,10 @@ impl From<Fault> for Unread {
     }
 }
 
-impl From<WordFault> for Unread {
+impl From<Fault<WordCause>> for Unread {
     ghost from_gives = { λ f r. r ≡ UnreadFor (word_fault_in f) };
 
-    fn from(f: WordFault) -> Unread {
+    fn from(f: Fault<WordCause>) -> Unread {
         Unread::Refused(f.into())
     }
 }
@@ -107,7 +107,7 @@ fn call_at(word: Word<'_>, reader: &mut Reader<'_>) -> Result<Call, Fault>
     if alike(bytes, b"verdict") {
         return Ok(Call::Verdict);
     }
-    Err(Fault::section(SectionCause::WordNotDue, word.place()))
+    Err(Fault::new(SectionCause::WordNotDue, word.place()))
 }
 
 // Takes the calls to the end of the text.

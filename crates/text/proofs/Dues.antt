@@ -3,8 +3,9 @@ use Rattle.std.proofs.Common.{◌≡◌, ℕ, ◌<◌, ◌≤◌, Bool, true, fa
 use Rattle.std.specs.Str.{bytes_eq}
 use Rattle.std.proofs.lemmas.Slice.Eq.{bytes_eq-Decides}
 use Rattle.std.proofs.lemmas.Bool.{cond-true, and_parts, and_from, leb-true, le-leb}
+use Rattle.text.specs.declared.fault.WordCause.{WordCause}
+use Rattle.text.specs.declared.fault.Cause.{Cause}
 use Rattle.text.specs.declared.fault.Fault.{Fault}
-use Rattle.text.specs.declared.fault.WordFault.{WordFault}
 use Rattle.text.specs.declared.words.Due.{Due}
 use Rattle.text.specs.declared.words.Due.TheVariants.{Keyword, Number}
 use Rattle.text.specs.Words.{text_end, Rest, Step, Spelled, next_word}
@@ -35,7 +36,7 @@ pub bytes_same : (a b : List ℕ) → a ≡ b → bytes_eq a b ≡ true
 bytes_same a b = (bytes_eq-Decides a b).1
 
 -- reading r goes well, gives v, and leaves a text with the words ws
-pub record Reads {T : Type 0} (r : Result (Step T) Fault) (v : T) (ws : List (List ℕ)) : Type 0 where
+pub record Reads {T : Type 0} (r : Result (Step T) (Fault Cause)) (v : T) (ws : List (List ℕ)) : Type 0 where
   pub step : Step T
   pub is : r ≡ Ok step
   pub value : step.value ≡ v
@@ -53,7 +54,7 @@ word_reads k s u ws h =
     let n = next_of k s.bytes s.at u ws h in
     record { step = n.step; is = ap (there (text_end s)) n.is; bytes = n.bytes; left = n.left }
 
-there_some : (e : ℕ) (r : Result (Option (Step Spelled)) WordFault) (w : Step Spelled) → there e r ≡ Ok w → r ≡ Ok (Some w)
+there_some : (e : ℕ) (r : Result (Option (Step Spelled)) (Fault WordCause)) (w : Step Spelled) → there e r ≡ Ok w → r ≡ Ok (Some w)
 there_some e (Ok None) w h = impossible (cc)
 there_some e (Ok (Some x)) w h = let f : x ≡ w = cc in ap (λ (y : Step Spelled). Ok (Some y)) f
 there_some e (Err f) w h = impossible (cc)
@@ -118,7 +119,7 @@ number_reads lo hi n s ws a b small h =
       left = w.left;
     }
 
-nothing_none : (r : Result (Option (Step Spelled)) WordFault) → nothing_more r ≡ Ok tt → r ≡ Ok None
+nothing_none : (r : Result (Option (Step Spelled)) (Fault WordCause)) → nothing_more r ≡ Ok tt → r ≡ Ok None
 nothing_none (Ok None) h = refl
 nothing_none (Ok (Some w)) h = impossible (cc)
 nothing_none (Err f) h = impossible (cc)

@@ -2,7 +2,8 @@
 use Rattle.std.proofs.Common.{◌≡◌, ℕ, suc, ◌+◌, ◌-◌, Bool, true, false, cond, leb, List, [], ◌∷◌, length, take, drop, Some, None, Ok, Err, Option, Result, sym, refl, ap, ◌∙◌, subst, inl, inr, arith}
 use Rattle.std.proofs.lemmas.List.{drop-drop}
 use Rattle.std.proofs.lemmas.Bool.{cond-true, cond-false, cases_Bool}
-use Rattle.text.specs.declared.fault.WordFault.{WordFault}
+use Rattle.text.specs.declared.fault.WordCause.{WordCause}
+use Rattle.text.specs.declared.fault.Fault.{Fault}
 use Rattle.text.specs.declared.fault.WordCause.TheVariants.{WordTooLong}
 use Rattle.text.specs.declared.words.Due.{Due}
 use Rattle.text.specs.declared.words.Word.{Word}
@@ -47,7 +48,7 @@ part_here k t p n w r true h =
       );
     })
 
-part_at : (k : Due) (t : List ℕ) (p : ℕ) (w : Step Spelled) (r : Result ℕ WordFault) → run_end t p ≡ r → found (cut_at k t p r) ≡ Ok (Some w) → PartOf (left_at t p) w
+part_at : (k : Due) (t : List ℕ) (p : ℕ) (w : Step Spelled) (r : Result ℕ (Fault WordCause)) → run_end t p ≡ r → found (cut_at k t p r) ≡ Ok (Some w) → PartOf (left_at t p) w
 part_at k t p w (Err f) e h = impossible (cc)
 part_at k t p w (Ok n) e h = part_here k t p n w (run_of t p n e) (leb (n - p) 16) h
 
@@ -59,13 +60,13 @@ part_of_text k (b ∷ t) p w h =
       | inr off ↦ part_at k (b ∷ t) p w (run_end (b ∷ t) p) refl (sym (cond-false _ _ _ off) ∙ h)
     ]
 
-pub word_is_part : (k : Due) (r : Result (Option Word) WordFault) (s : Rest) (now : Reader) → seen r now ≡ next_word k s → WordIsPart r s now
+pub word_is_part : (k : Due) (r : Result (Option Word) (Fault WordCause)) (s : Rest) (now : Reader) → seen r now ≡ next_word k s → WordIsPart r s now
 word_is_part k (Ok None) s now e = tt
 word_is_part k (Ok (Some w)) s now e = part_of_text k s.bytes s.at _ (sym e)
 word_is_part k (Err f) s now e = tt
 
 -- what the reader has left, by what it was to read
-pub left_is : (k : Due) (r : Result (Option Word) WordFault) (s : Rest) (now : Reader) → seen r now ≡ next_word k s → BlanksGone r s now → rest_of now ≡ left_after k s
-left_is k (Ok None) s now e h = h ∙ ap (λ (x : Result (Option (Step Spelled)) WordFault). left_by x s) e
-left_is k (Ok (Some w)) s now e h = ap (λ (x : Result (Option (Step Spelled)) WordFault). left_by x s) e
-left_is k (Err f) s now e h = h ∙ ap (λ (x : Result (Option (Step Spelled)) WordFault). left_by x s) e
+pub left_is : (k : Due) (r : Result (Option Word) (Fault WordCause)) (s : Rest) (now : Reader) → seen r now ≡ next_word k s → BlanksGone r s now → rest_of now ≡ left_after k s
+left_is k (Ok None) s now e h = h ∙ ap (λ (x : Result (Option (Step Spelled)) (Fault WordCause)). left_by x s) e
+left_is k (Ok (Some w)) s now e h = ap (λ (x : Result (Option (Step Spelled)) (Fault WordCause)). left_by x s) e
+left_is k (Err f) s now e h = h ∙ ap (λ (x : Result (Option (Step Spelled)) (Fault WordCause)). left_by x s) e

@@ -13,6 +13,7 @@ use Rattle.profile.specs.Kinds.{event_kind, symbols_used}
 use Rattle.profile.specs.Rules.{formed, lawful_rule, rule_le}
 use Rattle.profile.specs.Tables.{add_answer, add_after}
 use Rattle.text.specs.declared.fault.Place.{Place}
+use Rattle.text.specs.declared.fault.Cause.{Cause}
 use Rattle.text.specs.declared.fault.Fault.{Fault}
 use Rattle.text.specs.declared.fault.ProfileCause.TheVariants.{RuleTwice}
 use Rattle.text.specs.Faults.{profile_fault}
@@ -59,22 +60,22 @@ taken_in r rs is a e law room new put =
 
 -- one more rule: i are read of n, rs are those in the table, and s is left
 module _ (states symbols events : List (List ℕ)) (n i : ℕ) (rs : List Rule) (s : Rest) (on : i < n) where
-  abbrev goes_on : Step (Rule × Place) → Result (Step (List Rule)) Fault
+  abbrev goes_on : Step (Rule × Place) → Result (Step (List Rule)) (Fault Cause)
   goes_on r =
       cond (present rule_le r.value.0 rs) (Err (profile_fault RuleTwice r.value.1))
       (more_rules states symbols events (n - (i + 1)) (insert_into rule_le r.value.0 rs) r.rest)
 
-  at_rule : (r : Result (Step (Rule × Place)) Fault) → r ≡ read_rule states symbols events s → more_rules states symbols events (n - i) rs s ≡ and_then r goes_on
+  at_rule : (r : Result (Step (Rule × Place)) (Fault Cause)) → r ≡ read_rule states symbols events s → more_rules states symbols events (n - i) rs s ≡ and_then r goes_on
   at_rule r e =
       let k : n - i ≡ suc (n - (i + 1)) = omega arith in
-      ap (λ m. more_rules states symbols events m rs s) k ∙ ap (λ (r : Result (Step (Rule × Place)) Fault). and_then r goes_on) (sym e)
+      ap (λ m. more_rules states symbols events m rs s) k ∙ ap (λ (r : Result (Step (Rule × Place)) (Fault Cause)). and_then r goes_on) (sym e)
 
-  pub rule_fault : (f : Fault) → Err f ≡ read_rule states symbols events s → Err f ≡ more_rules states symbols events (n - i) rs s
+  pub rule_fault : (f : Fault Cause) → Err f ≡ read_rule states symbols events s → Err f ≡ more_rules states symbols events (n - i) rs s
   rule_fault f e = sym (at_rule _ e)
 
   -- a is the table's answer
   module _ (w : Step (Rule × Place)) (a : Result ℕ NotAdded) (read : Ok w ≡ read_rule states symbols events s) (told : a ≡ add_answer w.value.0 rs) (law : lawful_rule event_kind w.value.0 ≡ true) (room : length rs < 96) where
-    pub rule_twice : (f : Fault) → true ≡ is_err a → f ≡ profile_fault RuleTwice w.value.1 → Err f ≡ more_rules states symbols events (n - i) rs s
+    pub rule_twice : (f : Fault Cause) → true ≡ is_err a → f ≡ profile_fault RuleTwice w.value.1 → Err f ≡ more_rules states symbols events (n - i) rs s
     rule_twice f old ef = ap Err ef ∙ sym (at_rule _ read ∙ cond-true _ _ _ (refused_twice w.value.0 rs a told law room ∙ sym old))
 
     pub rule_more : (is : List Rule) → false ≡ is_err a → is ≡ add_after w.value.0 rs a → (more_rules states symbols events (n - (i + 1)) is w.rest ≡ more_rules states symbols events (n - i) rs s) × (length is ≡ length rs + 1)

@@ -9,6 +9,7 @@ use Rattle.profile.specs.declared.Kind.TheVariants as kind
 use Rattle.profile.specs.declared.Rule.{Rule}
 use Rattle.profile.specs.Kinds.{event_kind, symbols_used}
 use Rattle.text.specs.declared.fault.Place.{Place}
+use Rattle.text.specs.declared.fault.Cause.{Cause}
 use Rattle.text.specs.declared.fault.Fault.{Fault}
 use Rattle.text.specs.declared.words.Due.TheVariants.{Keyword}
 use Rattle.text.specs.Words.{Rest, Step, Spelled}
@@ -25,7 +26,7 @@ pub mode_takes : (s : Rest) (st : Step (Mode × Place)) → read_mode s ≡ Ok s
 mode_takes s st e =
     let p = then_ok (word_due Keyword s) _ st e in
     let w : Step Spelled = p.0 in
-    let all : (m : Mode) → w.value.bytes ≡ mode_word m → ◌≡◌ {A = Result (Step (Mode × Place)) Fault} (Ok (record { value = (m, w.value.place); rest = w.rest })) (Ok st) → Takes s (mode_word st.value.0 ∷ []) st.rest =
+    let all : (m : Mode) → w.value.bytes ≡ mode_word m → ◌≡◌ {A = Result (Step (Mode × Place)) (Fault Cause)} (Ok (record { value = (m, w.value.place); rest = w.rest })) (Ok st) → Takes s (mode_word st.value.0 ∷ []) st.rest =
     λ m same h.
     (let f = ok_same h in
     subst (λ (x : Step (Mode × Place)). Takes s (mode_word x.value.0 ∷ []) x.rest) f (takes_as (ap (λ (l : List ℕ). l ∷ []) same) (word_takes Keyword s w p.1))) in

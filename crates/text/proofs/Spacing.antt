@@ -2,7 +2,8 @@
 use Rattle.std.proofs.Common.{◌≡◌, ℕ, suc, ◌+◌, ◌-◌, ◌≤◌, Bool, true, false, cond, leb, List, [], ◌∷◌, ◌++◌, length, take, drop, Some, None, Ok, Err, Result, sym, refl, ap, ◌∙◌, subst, inl, inr, append_assoc, arith}
 use Rattle.std.proofs.lemmas.List.{take_at, drop_at, take-append-drop}
 use Rattle.std.proofs.lemmas.Bool.{cond-true, cond-false, cases_Bool, and_parts, and_from, or_cases, or_left, or_right, or_from, eqb-true, eq-eqb, ne_eqb, leb-true, le-leb}
-use Rattle.text.specs.declared.fault.WordFault.{WordFault}
+use Rattle.text.specs.declared.fault.WordCause.{WordCause}
+use Rattle.text.specs.declared.fault.Fault.{Fault}
 use Rattle.text.specs.declared.fault.WordCause.TheVariants.{WordTooLong}
 use Rattle.text.specs.declared.words.Due.{Due}
 use Rattle.text.specs.Faults.{place_at, word_fault}
@@ -101,7 +102,7 @@ pub run_of : (t : List ℕ) (p e : ℕ) → run_end t p ≡ Ok e → Run t p e
 run_of [] p e h = run_none [] p e (cc) tt
 run_of (b ∷ t) p e h =
     elim (cases_Bool (is_blank b)) [
-      | inl yes-blank ↦ (let g : ◌≡◌ {A = Result ℕ WordFault} (Ok p) (Ok e) = sym (cond-true _ _ _ yes-blank) ∙ h in run_none (b ∷ t) p e (cc) (blank_from_test b yes-blank))
+      | inl yes-blank ↦ (let g : ◌≡◌ {A = Result ℕ (Fault WordCause)} (Ok p) (Ok e) = sym (cond-true _ _ _ yes-blank) ∙ h in run_none (b ∷ t) p e (cc) (blank_from_test b yes-blank))
       | inr not-blank ↦ elim (cases_Bool (is_visible b)) [
         | inl seen ↦ run_one b t p e seen (run_of t (p + 1) e (sym (cond-true _ _ _ seen) ∙ sym (cond-false _ _ _ not-blank) ∙ h))
         | inr hidden ↦ (let g = sym (cond-false _ _ _ hidden) ∙ sym (cond-false _ _ _ not-blank) ∙ h in impossible (cc))
@@ -143,7 +144,7 @@ run_some b t p n nb h =
       | inr hidden ↦ (let g = sym (cond-false _ _ _ hidden) ∙ sym (cond-false _ _ _ nb) ∙ h in impossible (cc))
     ]
 
-at_cut : (k : Due) (b : ℕ) (t : List ℕ) (p : ℕ) (st : Step Spelled) → is_blank b ≡ false → (r : Result ℕ WordFault) → run_end (b ∷ t) p ≡ r → found (cut_at k (b ∷ t) p r) ≡ Ok (Some st) → (ws : List (List ℕ)) → Spaced st.rest.bytes ws → Spaced (b ∷ t) (st.value.bytes ∷ ws)
+at_cut : (k : Due) (b : ℕ) (t : List ℕ) (p : ℕ) (st : Step Spelled) → is_blank b ≡ false → (r : Result ℕ (Fault WordCause)) → run_end (b ∷ t) p ≡ r → found (cut_at k (b ∷ t) p r) ≡ Ok (Some st) → (ws : List (List ℕ)) → Spaced st.rest.bytes ws → Spaced (b ∷ t) (st.value.bytes ∷ ws)
 at_cut k b t p st nb (Err f) e h ws s = impossible (cc)
 at_cut k b t p st nb (Ok n) e h ws s = cut_word k b t p n st (run_of (b ∷ t) p n e) nb (run_some b t p n nb e) (leb (n - p) 16) refl h ws s
 
@@ -155,7 +156,7 @@ word_of k (b ∷ t) p st h ws s =
       | inr off ↦ at_cut k b t p st off (run_end (b ∷ t) p) refl (sym (cond-false _ _ _ off) ∙ h) ws s
     ]
 
-not_none : (r : Result (Step Spelled) WordFault) → found r ≡ Ok None → ⊥
+not_none : (r : Result (Step Spelled) (Fault WordCause)) → found r ≡ Ok None → ⊥
 not_none (Ok w) h = impossible (cc)
 not_none (Err f) h = impossible (cc)
 

@@ -1,9 +1,9 @@
 // Words (layer 1): runs of visible bytes between blanks, each a part of the text that was handed over.
 ghost use Rattle.std.specs.Prelude.{◌≡◌, ◌+◌, ◌^◌, ◌<◌, ◌≤◌, length, IfOk};
 ghost use Rattle.text.specs.Faults.{place_at};
-ghost use Rattle.text.specs.Words.{is_blank, is_visible, run_end, word_at, next_word, left_after, begun, length_judged, rest_of, spelled, seen, parted, text_end, BlanksGone, WordIsPart};
+ghost use Rattle.text.specs.Words.{is_blank, run_end, word_at, next_word, begun, length_judged, rest_of, spelled, seen, parted, text_end, GoesOn, BlanksGone, WordIsPart};
 
-use crate::fault::{Place, WordCause, WordFault};
+use crate::fault::{Fault, Place, WordCause};
 use crate::reader::Reader;
 
 // What the reader of a text has to come to next. Words have no class of their own: what is due decides how one is read.
@@ -37,9 +37,7 @@ impl<'a> Word<'a> {
         ensures { result.now ≡ (spelled self.entry).bytes }
     {
         match self {
-            Word::Keyword(bytes, _) => bytes,
-            Word::Number(bytes, _) => bytes,
-            Word::Name(bytes, _) => bytes,
+            Word::Keyword(bytes, _) | Word::Number(bytes, _) | Word::Name(bytes, _) => bytes,
         }
     }
 
@@ -47,9 +45,7 @@ impl<'a> Word<'a> {
         ensures { result ≡ (spelled self.entry).place }
     {
         match self {
-            Word::Keyword(_, place) => place,
-            Word::Number(_, place) => place,
-            Word::Name(_, place) => place,
+            Word::Keyword(_, place) | Word::Number(_, place) | Word::Name(_, place) => place,
         }
     }
 }
@@ -57,17 +53,11 @@ impl<'a> Word<'a> {
 fn is_blank(b: u8) -> bool
     ensures { result ≡ is_blank b }
 {
-    b == 32 || b == 10
-}
-
-fn is_visible(b: u8) -> bool
-    ensures { result ≡ is_visible b }
-{
-    33 <= b && b <= 126
+    matches!(b, b' ' | b'\n')
 }
 
 // The offset where the run of bytes at the front that are not blank ends.
-fn run_end(text: &[u8], at: usize) -> Result<usize, WordFault>
+fn run_end(text: &[u8], at: usize) -> Result<usize, Fault<WordCause>>
     requires { at + length text.now < 2 ^ 64 }
     ensures value { result ≡ run_end text.now at }
     ensures bound { IfOk result (λ e. (at ≤ e) × (e ≤ at + length text.now)) }
@@ -78,11 +68,8 @@ fn run_end(text: &[u8], at: usize) -> Result<usize, WordFault>
         if is_blank(*b) {
             return Ok(end);
         }
-        if !is_visible(*b) {
-            return Err(WordFault {
-                cause: WordCause::ByteNotAllowed,
-                place: Place { offset: end },
-            });
+        if !b.is_ascii_graphic() {
+            return Err(Fault::new(WordCause::ByteNotAllowed, Place { offset: end }));
         }
         end += 1;
         rest = more;
@@ -91,7 +78,11 @@ fn run_end(text: &[u8], at: usize) -> Result<usize, WordFault>
 }
 
 // The word at the front of `text`, and what follows it.
-fn word_at<'a>(due: Due, text: &'a [u8], at: usize) -> Result<(Word<'a>, &'a [u8]), WordFault>
+fn word_at<'a>(
+    due: Due,
+    text: &'a [u8],
+    at: usize,
+) -> Result<(Word<'a>, &'a [u8]), Fault<WordCause>>
     requires { at + length text.now < 2 ^ 64 }
     ensures value { parted result at ≡ word_at due text.now at }
     ensures whole { IfOk result (λ w. length (spelled w.0).bytes + length w.1.now ≡ length text.now) }
@@ -99,24 +90,18 @@ fn word_at<'a>(due: Due, text: &'a [u8], at: usize) -> Result<(Word<'a>, &'a [u8
     let n = run_end(text, at)? - at;
     let place = Place { offset: at };
     if n > 16 {
-        return Err(WordFault {
-            cause: WordCause::WordTooLong,
-            place,
-        });
+        return Err(Fault::new(WordCause::WordTooLong, place));
     }
     let (bytes, rest) = text.split_at(n);
     Ok((Word::new(due, bytes, place), rest))
 }
 
 // Refuses a text of over 20,000 bytes, before any of it is read.
-pub fn judge_length(text: &[u8]) -> Result<(), WordFault>
+pub fn judge_length(text: &[u8]) -> Result<(), Fault<WordCause>>
     ensures { result ≡ length_judged text.now }
 {
     if text.len() > 20000 {
-        return Err(WordFault {
-            cause: WordCause::TextTooLong,
-            place: Place { offset: 0 },
-        });
+        return Err(Fault::new(WordCause::TextTooLong, Place { offset: 0 }));
     }
     Ok(())
 }
@@ -139,7 +124,7 @@ impl<'a> Reader<'a> {
     }
 
     // Skips blanks and takes the next word, if there is one.
-    fn advance(&mut self, due: Due) -> Result<Option<Word<'a>>, WordFault>
+    fn advance(&mut self, due: Due) -> Result<Option<Word<'a>>, Fault<WordCause>>
         ensures value { seen result self.new ≡ next_word due (rest_of self.old) }
         ensures left { BlanksGone result (rest_of self.old) self.new }
         ensures end { text_end (rest_of self.new) ≡ text_end (rest_of self.old) }
@@ -158,12 +143,11 @@ impl<'a> Reader<'a> {
     }
 
     // The next word, read as what is due, or nothing where only blanks are left.
-    pub fn next(&mut self, due: Due) -> Result<Option<Word<'a>>, WordFault>
+    pub fn next(&mut self, due: Due) -> Result<Option<Word<'a>>, Fault<WordCause>>
         ensures value { seen result self.new ≡ next_word due (rest_of self.old) }
         ensures part { WordIsPart result (rest_of self.old) self.new }
         ensures left { BlanksGone result (rest_of self.old) self.new }
-        ensures after { rest_of self.new ≡ left_after due (rest_of self.old) }
-        ensures end { text_end (rest_of self.new) ≡ text_end (rest_of self.old) }
+        ensures goes_on { GoesOn due (rest_of self.old) (rest_of self.new) }
     {
         self.advance(due)
     }

@@ -7,6 +7,5 @@ returns c = record {
   value = c.advance.ensures.value;
   part = word_is_part c.args.due c.advance.result (rest_of c.args.self.now) c.advance.new.self c.advance.ensures.value;
   left = c.advance.ensures.left;
-  after = left_is c.args.due c.advance.result (rest_of c.args.self.now) c.advance.new.self c.advance.ensures.value c.advance.ensures.left;
-  end = c.advance.ensures.end;
+  goes_on = (left_is c.args.due c.advance.result (rest_of c.args.self.now) c.advance.new.self c.advance.ensures.value c.advance.ensures.left, c.advance.ensures.end);
 }
