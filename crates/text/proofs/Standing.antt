@@ -24,7 +24,7 @@ use Rattle.text.specs.Sections.{and_then, there, word_due, read_keyword, in_rang
 use Rattle.text.specs.ProfileText.{mode_word, event_names, index_of, more_names, read_names, known, read_index, read_mode, read_symbol_if, used_by, read_rule, more_rules, read_rules, read_start, read_body, read_sections, Reading, judged, read_profile, ReadInto}
 use Rattle.text.specs.Grammar.{Blank, Visible, BlankOrEnd}
 use Rattle.text.specs.Places.{byte_at, Begins, Stands, FaultStands}
-use Rattle.text.proofs.Spacing.{impossible, Run, run_of, run_some, blank_from_test, test_from_blank}
+use Rattle.text.proofs.Spacing.{Run, run_of, run_some, blank_from_test, test_from_blank}
 
 -- t is what the text has from p on
 pub record From (text t : List ℕ) (p : ℕ) : Type 0 where
@@ -42,11 +42,11 @@ first_is text t b p f =
 
 -- a run that meets a byte that is not allowed
 run_fault : (text t : List ℕ) (p : ℕ) (f : Fault WordCause) → From text t p → run_end t p ≡ Err f → Stands text (InWords f.cause) f.place.offset
-run_fault text [] p f w h = impossible (cc)
+run_fault text [] p f w h = cc
 run_fault text (b ∷ t) p f w h =
     let first = first_is text t b p w in
     elim (cases_Bool (is_blank b)) [
-      | inl on ↦ (let g = sym (cond-true _ _ _ on) ∙ h in impossible (cc))
+      | inl on ↦ (let g = sym (cond-true _ _ _ on) ∙ h in cc)
       | inr off ↦ elim (cases_Bool (is_visible b)) [
         | inl seen ↦ run_fault text t (p + 1) f first.2 (sym (cond-true _ _ _ seen) ∙ sym (cond-false _ _ _ off) ∙ h)
         | inr hidden ↦

@@ -7,10 +7,9 @@ use Rattle.text.specs.declared.fault.Fault.{Fault}
 use Rattle.text.specs.declared.fault.SectionCause.TheVariants.{WordNotDue, NumberNotDue}
 use Rattle.text.specs.declared.words.Due.{Due}
 use Rattle.text.specs.declared.words.Due.TheVariants.{Keyword, Number}
-use Rattle.text.specs.declared.words.Word.{Word}
 use Rattle.text.specs.declared.reader.Reader.{Reader}
 use Rattle.text.specs.Faults.{place_at, word_fault_in, section_fault}
-use Rattle.text.specs.Words.{Rest, Step, Spelled, rest_of, spelled, text_end, next_word}
+use Rattle.text.specs.Words.{Rest, Step, Spelled, rest_of, text_end, next_word}
 
 -- what comes next, unless there is a fault
 abbrev pub and_then : {T U E : Type 0} → Result T E → (T → Result U E) → Result U E
@@ -21,10 +20,6 @@ and_then (Err e) f = Err e
 abbrev pub stepped : {T E : Type 0} → Result T E → Reader → Result (Step T) E
 stepped (Ok x) r = Ok (record { value = x; rest = rest_of r })
 stepped (Err f) r = Err f
-
-abbrev pub taken : Result Word (Fault Cause) → Reader → Result (Step Spelled) (Fault Cause)
-taken (Ok w) r = Ok (record { value = spelled w; rest = rest_of r })
-taken (Err f) r = Err f
 
 -- A word is due: the text must not end here.
 abbrev pub there : ℕ → Result (Option (Step Spelled)) (Fault WordCause) → Result (Step Spelled) (Fault Cause)

@@ -1,6 +1,5 @@
 -- Words: how a text is taken apart, byte by byte.
 use Rattle.std.specs.Prelude.{◌≡◌, ℕ, ◌+◌, ◌-◌, ◌≤◌, Bool, cond, ◌&&◌, ◌||◌, List, [], ◌∷◌, length, take, drop, Some, None, Ok, Err, Option, Result, ◌==◌, nat_le}
-use Rattle.std.specs.Borrow.{Bor}
 use Rattle.text.specs.declared.fault.Place.{Place}
 use Rattle.text.specs.declared.fault.WordCause.{WordCause}
 use Rattle.text.specs.declared.fault.Fault.{Fault}
@@ -49,12 +48,13 @@ abbrev pub run_end : List ℕ → ℕ → Result ℕ (Fault WordCause)
 run_end [] p = Ok p
 run_end (b ∷ bs) p = cond (is_blank b) (Ok p) (cond (is_visible b) (run_end bs (p + 1)) (Err (word_fault ByteNotAllowed p)))
 
--- the run of n bytes at the front is a word if it has at most 16; else that is a fault at its first byte
+-- the run of n bytes at the front, and what is left after it
+abbrev pub front : Due → ℕ → List ℕ → ℕ → Step Spelled
+front k n t p = record { value = record { kind = k; bytes = take n t; place = place_at p }; rest = record { bytes = drop n t; at = p + n } }
+
+-- that run is a word if it has at most 16 bytes; else that is a fault at its first byte
 abbrev pub cut : Due → ℕ → List ℕ → ℕ → Result (Step Spelled) (Fault WordCause)
-cut k n t p =
-    cond (nat_le n 16)
-    (Ok (record { value = record { kind = k; bytes = take n t; place = place_at p }; rest = record { bytes = drop n t; at = p + n } }))
-    (Err (word_fault WordTooLong p))
+cut k n t p = cond (nat_le n 16) (Ok (front k n t p)) (Err (word_fault WordTooLong p))
 
 abbrev pub cut_at : Due → List ℕ → ℕ → Result ℕ (Fault WordCause) → Result (Step Spelled) (Fault WordCause)
 cut_at k t p (Ok e) = cut k (e - p) t p
@@ -120,14 +120,14 @@ spelled (Keyword bs p) = record { kind = due.Keyword; bytes = bs.now; place = p 
 spelled (Number bs p) = record { kind = due.Number; bytes = bs.now; place = p }
 spelled (Name bs p) = record { kind = due.Name; bytes = bs.now; place = p }
 
+abbrev pub taken : {E : Type 0} → Result Word E → Reader → Result (Step Spelled) E
+taken (Ok w) r = Ok (record { value = spelled w; rest = rest_of r })
+taken (Err f) r = Err f
+
 abbrev pub seen : Result (Option Word) (Fault WordCause) → Reader → Result (Option (Step Spelled)) (Fault WordCause)
 seen (Ok None) r = Ok None
 seen (Ok (Some w)) r = Ok (Some (record { value = spelled w; rest = rest_of r }))
 seen (Err f) r = Err f
-
-abbrev pub parted : Result (Word × Bor (List ℕ)) (Fault WordCause) → ℕ → Result (Step Spelled) (Fault WordCause)
-parted (Ok w) p = Ok (record { value = spelled w.0; rest = record { bytes = w.1.now; at = p + length (spelled w.0).bytes } })
-parted (Err f) p = Err f
 
 -- where there is no word, only the blanks are gone
 abbrev pub BlanksGone : Result (Option Word) (Fault WordCause) → Rest → Reader → Type 0

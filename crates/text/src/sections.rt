@@ -2,8 +2,8 @@
 ghost use Rattle.std.specs.Prelude.{◌≡◌, ◌≤◌, IfOk};
 ghost use Rattle.std.specs.Str.{bytes_eq};
 ghost use Rattle.text.specs.declared.words.Due.TheVariants.{Keyword, Number};
-ghost use Rattle.text.specs.Words.{rest_of, GoesOn};
-ghost use Rattle.text.specs.Sections.{plain_number, stepped, taken, word_due, read_keyword, read_number, read_end};
+ghost use Rattle.text.specs.Words.{rest_of, taken, GoesOn};
+ghost use Rattle.text.specs.Sections.{plain_number, stepped, word_due, read_keyword, read_number, read_end};
 
 use crate::fault::{Fault, SectionCause};
 use crate::reader::Reader;

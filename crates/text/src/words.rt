@@ -1,7 +1,7 @@
 // Words (layer 1): runs of visible bytes between blanks, each a part of the text that was handed over.
-ghost use Rattle.std.specs.Prelude.{◌≡◌, ◌+◌, ◌^◌, ◌<◌, ◌≤◌, length, IfOk};
+ghost use Rattle.std.specs.Prelude.{◌≡◌, ◌≤◌, IfOk, OnErr};
 ghost use Rattle.text.specs.Faults.{place_at};
-ghost use Rattle.text.specs.Words.{is_blank, run_end, word_at, next_word, begun, length_judged, rest_of, spelled, seen, parted, text_end, GoesOn, BlanksGone, WordIsPart};
+ghost use Rattle.text.specs.Words.{is_blank, run_end, word_at, next_word, begun, length_judged, rest_of, spelled, taken, seen, text_end, GoesOn, BlanksGone, WordIsPart};
 
 use crate::fault::{Fault, Place, WordCause};
 use crate::reader::Reader;
@@ -56,46 +56,6 @@ fn is_blank(b: u8) -> bool
     matches!(b, b' ' | b'\n')
 }
 
-// The offset where the run of bytes at the front that are not blank ends.
-fn run_end(text: &[u8], at: usize) -> Result<usize, Fault<WordCause>>
-    requires { at + length text.now < 2 ^ 64 }
-    ensures value { result ≡ run_end text.now at }
-    ensures bound { IfOk result (λ e. (at ≤ e) × (e ≤ at + length text.now)) }
-{
-    let mut rest = text;
-    let mut end = at;
-    while let [b, more @ ..] = rest {
-        if is_blank(*b) {
-            return Ok(end);
-        }
-        if !b.is_ascii_graphic() {
-            return Err(Fault::new(WordCause::ByteNotAllowed, Place { offset: end }));
-        }
-        end += 1;
-        rest = more;
-    }
-    Ok(end)
-}
-
-// The word at the front of `text`, and what follows it.
-fn word_at<'a>(
-    due: Due,
-    text: &'a [u8],
-    at: usize,
-) -> Result<(Word<'a>, &'a [u8]), Fault<WordCause>>
-    requires { at + length text.now < 2 ^ 64 }
-    ensures value { parted result at ≡ word_at due text.now at }
-    ensures whole { IfOk result (λ w. length (spelled w.0).bytes + length w.1.now ≡ length text.now) }
-{
-    let n = run_end(text, at)? - at;
-    let place = Place { offset: at };
-    if n > 16 {
-        return Err(Fault::new(WordCause::WordTooLong, place));
-    }
-    let (bytes, rest) = text.split_at(n);
-    Ok((Word::new(due, bytes, place), rest))
-}
-
 // Refuses a text of over 20,000 bytes, before any of it is read.
 pub fn judge_length(text: &[u8]) -> Result<(), Fault<WordCause>>
     ensures { result ≡ length_judged text.now }
@@ -123,6 +83,43 @@ impl<'a> Reader<'a> {
         }
     }
 
+    // The offset where the run of bytes at the front that are not blank ends.
+    fn run_end(&self) -> Result<usize, Fault<WordCause>>
+        ensures value { result ≡ run_end self.now.rest.now self.now.at }
+        ensures bound { IfOk result (λ e. (self.now.at ≤ e) × (e ≤ text_end (rest_of self.now))) }
+    {
+        let mut rest = self.rest;
+        let mut end = self.at;
+        while let [b, more @ ..] = rest {
+            if is_blank(*b) {
+                return Ok(end);
+            }
+            if !b.is_ascii_graphic() {
+                return Err(Fault::new(WordCause::ByteNotAllowed, Place { offset: end }));
+            }
+            end += 1;
+            rest = more;
+        }
+        Ok(end)
+    }
+
+    // Takes the word at the front, read as what is due; a fault takes nothing.
+    fn take_word(&mut self, due: Due) -> Result<Word<'a>, Fault<WordCause>>
+        ensures value { taken result self.new ≡ word_at due self.old.rest.now self.old.at }
+        ensures kept { OnErr result (rest_of self.new ≡ rest_of self.old) }
+        ensures end { text_end (rest_of self.new) ≡ text_end (rest_of self.old) }
+    {
+        let n = self.run_end()? - self.at;
+        let place = Place { offset: self.at };
+        if n > 16 {
+            return Err(Fault::new(WordCause::WordTooLong, place));
+        }
+        let (bytes, rest) = self.rest.split_at(n);
+        self.rest = rest;
+        self.at += n;
+        Ok(Word::new(due, bytes, place))
+    }
+
     // Skips blanks and takes the next word, if there is one.
     fn advance(&mut self, due: Due) -> Result<Option<Word<'a>>, Fault<WordCause>>
         ensures value { seen result self.new ≡ next_word due (rest_of self.old) }
@@ -131,10 +128,7 @@ impl<'a> Reader<'a> {
     {
         while let [b, more @ ..] = self.rest {
             if !is_blank(*b) {
-                let (word, after) = word_at(due, self.rest, self.at)?;
-                self.rest = after;
-                self.at += word.bytes().len();
-                return Ok(Some(word));
+                return self.take_word(due).map(Some);
             }
             self.at += 1;
             self.rest = more;
