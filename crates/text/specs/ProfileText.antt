@@ -59,6 +59,11 @@ read_names heading most s =
     and_then (read_number 1 most h.rest) (λ n.
     more_names n.value [] n.rest))
 
+-- the names of a profile's states and of its symbols
+pub record NameLists : Type 0 where
+  pub states : List (List ℕ)
+  pub symbols : List (List ℕ)
+
 -- a name of a list is due: its number
 abbrev pub known : Step Spelled → Option ℕ → Result (Step ℕ) (Fault Cause)
 known w None = Err (profile_fault NameUnknown w.value.place)

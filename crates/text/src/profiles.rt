@@ -6,7 +6,7 @@ ghost use Rattle.text.specs.Words.{rest_of};
 ghost use Rattle.text.specs.Sections.{stepped};
 ghost use Rattle.text.specs.Grammar.{Judged, OneReading};
 ghost use Rattle.text.specs.Places.{FaultStands};
-ghost use Rattle.text.specs.ProfileText.{texts, event_names, used_by, read_index, read_mode, read_symbol_if, read_rule, more_rules, read_rules, read_start, read_body, read_sections, table_listed, read_as, ReadInto};
+ghost use Rattle.text.specs.ProfileText.{NameLists, texts, event_names, used_by, read_index, read_mode, read_symbol_if, read_rule, more_rules, read_rules, read_start, read_body, read_sections, table_listed, read_as, ReadInto};
 
 use crate::fault::{Fault, Place, ProfileCause, SectionCause};
 use crate::names::{EVENTS, Names, name_section, position};
@@ -14,6 +14,7 @@ use crate::reader::Reader;
 use crate::sections::{finish, keyword, number, word_due};
 use crate::words::{Due, judge_length};
 use profile::{Kind, Mode, Rule, Table, kind_of};
+use std::marker::Model;
 
 // Takes a name of a list and tells its number.
 fn index(reader: &mut Reader<'_>, names: &[&[u8]]) -> Result<u8, Fault>
@@ -62,10 +63,17 @@ struct Vocabulary<'a> {
     symbols: Names<'a, 16>,
 }
 
+// Clauses see the two lists of names.
+impl<'a> Model for Vocabulary<'a> {
+    ghost Value = { NameLists };
+
+    ghost view = { λ v. record { states = texts v.states.items; symbols = texts v.symbols.items } };
+}
+
 impl Vocabulary<'_> {
     // Takes a state.
     fn state(&self, reader: &mut Reader<'_>) -> Result<u8, Fault>
-        ensures value { stepped result reader.new ≡ read_index (texts self.now.states.items) (rest_of reader.old) }
+        ensures value { stepped result reader.new ≡ read_index self.now.states (rest_of reader.old) }
         ensures bound { IfOk result (λ i. i < 8) }
     {
         index(reader, self.states.as_slice())
@@ -73,7 +81,7 @@ impl Vocabulary<'_> {
 
     // Takes a symbol.
     fn symbol(&self, reader: &mut Reader<'_>) -> Result<u8, Fault>
-        ensures value { stepped result reader.new ≡ read_index (texts self.now.symbols.items) (rest_of reader.old) }
+        ensures value { stepped result reader.new ≡ read_index self.now.symbols (rest_of reader.old) }
         ensures bound { IfOk result (λ i. i < 16) }
     {
         index(reader, self.symbols.as_slice())
@@ -81,7 +89,7 @@ impl Vocabulary<'_> {
 
     // Takes a symbol where one is used; where none is, it is 0.
     fn symbol_if(&self, reader: &mut Reader<'_>, used: bool) -> Result<u8, Fault>
-        ensures value { stepped result reader.new ≡ read_symbol_if used (texts self.now.symbols.items) (rest_of reader.old) }
+        ensures value { stepped result reader.new ≡ read_symbol_if used self.now.symbols (rest_of reader.old) }
         ensures bound { IfOk result (λ i. i < 16) }
         ensures unused { used ≡ false → IfOk result (λ i. i ≡ 0) }
     {
@@ -90,7 +98,7 @@ impl Vocabulary<'_> {
 
     // Takes a rule, and tells where it begins.
     fn rule(&self, reader: &mut Reader<'_>) -> Result<(Rule, Place), Fault>
-        ensures value { stepped result reader.new ≡ read_rule (texts self.now.states.items) (texts self.now.symbols.items) event_names (rest_of reader.old) }
+        ensures value { stepped result reader.new ≡ read_rule self.now.states self.now.symbols event_names (rest_of reader.old) }
         ensures lawful { IfOk result (λ x. lawful_rule event_kind x.0 ≡ true) }
     {
         let (mode, place) = mode(reader)?;
@@ -116,7 +124,7 @@ impl Vocabulary<'_> {
     // Takes `n` rules into a table, none of them twice, the mode aside.
     fn rule_list(&self, reader: &mut Reader<'_>, n: usize) -> Result<Table, Fault>
         requires { n ≤ 96 }
-        ensures { table_listed result reader.new ≡ more_rules (texts self.now.states.items) (texts self.now.symbols.items) event_names n [] (rest_of reader.old) }
+        ensures { table_listed result reader.new ≡ more_rules self.now.states self.now.symbols event_names n [] (rest_of reader.old) }
     {
         let mut table = Table::new();
         for _ in 0..n {
@@ -131,7 +139,7 @@ impl Vocabulary<'_> {
 
     // Takes the section of rules.
     fn rules(&self, reader: &mut Reader<'_>) -> Result<Table, Fault>
-        ensures { table_listed result reader.new ≡ read_rules (texts self.now.states.items) (texts self.now.symbols.items) event_names (rest_of reader.old) }
+        ensures { table_listed result reader.new ≡ read_rules self.now.states self.now.symbols event_names (rest_of reader.old) }
     {
         keyword(reader, b"rules")?;
         let n = number(reader, 0, 96)?;
@@ -140,7 +148,7 @@ impl Vocabulary<'_> {
 
     // Takes the section of the start: a state and a symbol.
     fn start(&self, reader: &mut Reader<'_>) -> Result<(u8, u8), Fault>
-        ensures value { stepped result reader.new ≡ read_start (texts self.now.states.items) (texts self.now.symbols.items) (rest_of reader.old) }
+        ensures value { stepped result reader.new ≡ read_start self.now.states self.now.symbols (rest_of reader.old) }
         ensures bound { IfOk result (λ s. (s.0 < 8) × (s.1 < 16)) }
     {
         keyword(reader, b"start")?;
@@ -152,7 +160,7 @@ impl Vocabulary<'_> {
 
     // Takes the rules and the start, and sees that nothing follows them.
     fn body(&self, reader: &mut Reader<'_>) -> Result<Table, Fault>
-        ensures { read_as result ≡ read_body (texts self.now.states.items) (texts self.now.symbols.items) event_names (rest_of reader.old) }
+        ensures { read_as result ≡ read_body self.now.states self.now.symbols event_names (rest_of reader.old) }
     {
         let mut table = self.rules(reader)?;
         let (state, symbol) = self.start(reader)?;

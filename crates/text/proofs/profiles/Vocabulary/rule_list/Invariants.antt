@@ -6,5 +6,5 @@ use Rattle.text.proofs.profiles.Vocabulary.rule_list.Given as goal
 
 abbrev pub invariant-loop : goal.invariant-loop
 invariant-loop l =
-    (more_rules (texts l.self.states.items) (texts l.self.symbols.items) event_names (l.n - l.counter) (table_rules l.table) (rest_of l.reader) ≡
-    more_rules (texts l.self.states.items) (texts l.self.symbols.items) event_names l.n [] (rest_of l.initial.reader)) × (length (table_rules l.table) ≡ l.counter)
+    (more_rules l.self.states l.self.symbols event_names (l.n - l.counter) (table_rules l.table) (rest_of l.reader) ≡
+    more_rules l.self.states l.self.symbols event_names l.n [] (rest_of l.initial.reader)) × (length (table_rules l.table) ≡ l.counter)
