@@ -9,10 +9,9 @@ use Rattle.text.specs.declared.fault.Fault.{Fault}
 use Rattle.text.specs.declared.fault.WordCause.TheVariants.{WordTooLong}
 use Rattle.text.specs.declared.words.Due.{Due}
 use Rattle.text.specs.declared.words.Word.{Word}
-use Rattle.text.specs.declared.reader.Reader.{Reader}
 use Rattle.text.specs.declared.words.Due.TheVariants.{Keyword, Number}
 use Rattle.text.specs.Faults.{place_at, word_fault, word_fault_in}
-use Rattle.text.specs.Words.{is_blank, Rest, Step, Spelled, run_end, cut_at, found, next_from, next_word, text_end, rest_of, spelled, seen}
+use Rattle.text.specs.Words.{is_blank, Rest, Step, Spelled, run_end, cut_at, found, next_from, next_word, text_end, spelled, seen}
 use Rattle.text.specs.Sections.{and_then, there, word_due, in_range, plain_number}
 use Rattle.text.proofs.Spacing.{impossible, run_some}
 use Rattle.text.proofs.Dues.{then_ok, then_is, cond_ok, ok_same}
@@ -23,10 +22,10 @@ use Rattle.book.specs.Turns.{to_be_made}
 use Rattle.calls.specs.Calls.{read_operand, read_enter, read_join, read_call, call_or_end, more_calls, all_calls, calls_of, AllToBeMade}
 
 -- what the reader told, as what is next in the text
-pub word_seen : (o : Option Word) (w : Word) (now : Reader) (s : Rest) → seen (Ok o) now ≡ next_word Keyword s → o ≡ Some w → next_word Keyword s ≡ Ok (Some (record { value = spelled w; rest = rest_of now }))
+pub word_seen : (o : Option Word) (w : Word) (now : Rest) (s : Rest) → seen (Ok o) now ≡ next_word Keyword s → o ≡ Some w → next_word Keyword s ≡ Ok (Some (record { value = spelled w; rest = now }))
 word_seen o w now s e is = sym e ∙ ap (λ (x : Option Word). seen (Ok x) now) is
 
-pub end_seen : (o : Option Word) (now : Reader) (s : Rest) → seen (Ok o) now ≡ next_word Keyword s → o ≡ None → next_word Keyword s ≡ Ok None
+pub end_seen : (o : Option Word) (now : Rest) (s : Rest) → seen (Ok o) now ≡ next_word Keyword s → o ≡ None → next_word Keyword s ≡ Ok None
 end_seen o now s e is = sym e ∙ ap (λ (x : Option Word). seen (Ok x) now) is
 
 -- what is left gets shorter: a word has at least one byte

@@ -7,9 +7,8 @@ use Rattle.text.specs.declared.fault.Fault.{Fault}
 use Rattle.text.specs.declared.fault.WordCause.TheVariants.{WordTooLong}
 use Rattle.text.specs.declared.words.Due.{Due}
 use Rattle.text.specs.declared.words.Word.{Word}
-use Rattle.text.specs.declared.reader.Reader.{Reader}
 use Rattle.text.specs.Faults.{word_fault}
-use Rattle.text.specs.Words.{is_blank, Rest, rest_of, Step, Spelled, seen, run_end, front, cut_at, found, next_from, next_word, left_by, left_after, PartOf, BlanksGone, WordIsPart}
+use Rattle.text.specs.Words.{is_blank, Rest, Step, Spelled, seen, run_end, front, cut_at, found, next_from, next_word, left_by, left_after, PartOf, BlanksGone, WordIsPart}
 use Rattle.text.proofs.Spacing.{Run, run_of}
 
 abbrev left_at : List ℕ → ℕ → Rest
@@ -60,13 +59,13 @@ part_of_text k (b ∷ t) p w h =
       | inr off ↦ part_at k (b ∷ t) p w (run_end (b ∷ t) p) refl (sym (cond-false _ _ _ off) ∙ h)
     ]
 
-pub word_is_part : (k : Due) (r : Result (Option Word) (Fault WordCause)) (s : Rest) (now : Reader) → seen r now ≡ next_word k s → WordIsPart r s now
+pub word_is_part : (k : Due) (r : Result (Option Word) (Fault WordCause)) (s : Rest) (now : Rest) → seen r now ≡ next_word k s → WordIsPart r s now
 word_is_part k (Ok None) s now e = tt
 word_is_part k (Ok (Some w)) s now e = part_of_text k s.bytes s.at _ (sym e)
 word_is_part k (Err f) s now e = tt
 
 -- what the reader has left, by what it was to read
-pub left_is : (k : Due) (r : Result (Option Word) (Fault WordCause)) (s : Rest) (now : Reader) → seen r now ≡ next_word k s → BlanksGone r s now → rest_of now ≡ left_after k s
+pub left_is : (k : Due) (r : Result (Option Word) (Fault WordCause)) (s : Rest) (now : Rest) → seen r now ≡ next_word k s → BlanksGone r s now → now ≡ left_after k s
 left_is k (Ok None) s now e h = h ∙ ap (λ (x : Result (Option (Step Spelled)) (Fault WordCause)). left_by x s) e
 left_is k (Ok (Some w)) s now e h = ap (λ (x : Result (Option (Step Spelled)) (Fault WordCause)). left_by x s) e
 left_is k (Err f) s now e h = h ∙ ap (λ (x : Result (Option (Step Spelled)) (Fault WordCause)). left_by x s) e

@@ -19,9 +19,8 @@ use Rattle.text.specs.declared.fault.SectionCause.TheVariants.{WordNotDue}
 use Rattle.text.specs.declared.fault.ProfileCause.TheVariants.{NameUnknown, NameTwice, RuleTwice}
 use Rattle.text.specs.declared.words.Due.TheVariants.{Keyword, Name}
 use Rattle.arrayvec.specs.ArrayVec.{ArrayVec}
-use Rattle.text.specs.declared.reader.Reader.{Reader}
 use Rattle.text.specs.Faults.{word_fault_in, section_fault, profile_fault}
-use Rattle.text.specs.Words.{Rest, Step, Spelled, rest_of, begun, length_judged}
+use Rattle.text.specs.Words.{Rest, Step, Spelled, begun, length_judged}
 use Rattle.text.specs.Sections.{and_then, word_due, read_keyword, read_number, read_end}
 
 -- the word for each mode
@@ -161,12 +160,12 @@ read_profile t = judged (length_judged t) (read_sections event_names (begun t))
 abbrev pub texts : List (Bor (List ℕ)) → List (List ℕ)
 texts = map (λ (r : Bor (List ℕ)). r.now)
 
-abbrev pub named : Result (ArrayVec (Bor (List ℕ))) (Fault Cause) → Reader → Result (Step (List (List ℕ))) (Fault Cause)
-named (Ok ns) r = Ok (record { value = texts ns.items; rest = rest_of r })
+abbrev pub named : Result (ArrayVec (Bor (List ℕ))) (Fault Cause) → Rest → Result (Step (List (List ℕ))) (Fault Cause)
+named (Ok ns) r = Ok (record { value = texts ns.items; rest = r })
 named (Err f) r = Err f
 
-abbrev pub table_listed : Result Table (Fault Cause) → Reader → Result (Step (List Rule)) (Fault Cause)
-table_listed (Ok t) r = Ok (record { value = table_rules t; rest = rest_of r })
+abbrev pub table_listed : Result Table (Fault Cause) → Rest → Result (Step (List Rule)) (Fault Cause)
+table_listed (Ok t) r = Ok (record { value = table_rules t; rest = r })
 table_listed (Err f) r = Err f
 
 abbrev pub reading_of : Table → Reading

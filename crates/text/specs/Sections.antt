@@ -7,9 +7,8 @@ use Rattle.text.specs.declared.fault.Fault.{Fault}
 use Rattle.text.specs.declared.fault.SectionCause.TheVariants.{WordNotDue, NumberNotDue}
 use Rattle.text.specs.declared.words.Due.{Due}
 use Rattle.text.specs.declared.words.Due.TheVariants.{Keyword, Number}
-use Rattle.text.specs.declared.reader.Reader.{Reader}
 use Rattle.text.specs.Faults.{place_at, word_fault_in, section_fault}
-use Rattle.text.specs.Words.{Rest, Step, Spelled, rest_of, text_end, next_word}
+use Rattle.text.specs.Words.{Rest, Step, Spelled, text_end, next_word}
 
 -- what comes next, unless there is a fault
 abbrev pub and_then : {T U E : Type 0} → Result T E → (T → Result U E) → Result U E
@@ -17,8 +16,8 @@ and_then (Ok x) f = f x
 and_then (Err e) f = Err e
 
 -- a value that the code read, with what its reader has left
-abbrev pub stepped : {T E : Type 0} → Result T E → Reader → Result (Step T) E
-stepped (Ok x) r = Ok (record { value = x; rest = rest_of r })
+abbrev pub stepped : {T E : Type 0} → Result T E → Rest → Result (Step T) E
+stepped (Ok x) r = Ok (record { value = x; rest = r })
 stepped (Err f) r = Err f
 
 -- A word is due: the text must not end here.

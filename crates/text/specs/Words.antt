@@ -8,7 +8,6 @@ use Rattle.text.specs.declared.words.Due.{Due}
 use Rattle.text.specs.declared.words.Word.{Word}
 use Rattle.text.specs.declared.words.Word.TheVariants.{Keyword, Number, Name}
 use Rattle.text.specs.declared.words.Due.TheVariants as due
-use Rattle.text.specs.declared.reader.Reader.{Reader}
 use Rattle.text.specs.Faults.{place_at, word_fault}
 
 -- a blank and a line feed stand between words
@@ -23,9 +22,6 @@ is_visible b = nat_le 33 b && nat_le b 126
 pub record Rest : Type 0 where
   pub bytes : List ℕ
   pub at : ℕ
-
-abbrev pub rest_of : Reader → Rest
-rest_of r = record { bytes = r.rest.now; at = r.at }
 
 -- where the text ends
 abbrev pub text_end : Rest → ℕ
@@ -114,28 +110,28 @@ length_judged t = cond (nat_le (length t) 20000) (Ok tt) (Err (word_fault TextTo
 abbrev pub begun : List ℕ → Rest
 begun t = record { bytes = t; at = 0 }
 
--- the same of what the code holds, whose words borrow their bytes from the text
+-- the same of the words that the code holds, which borrow their bytes from the text
 abbrev pub spelled : Word → Spelled
 spelled (Keyword bs p) = record { kind = due.Keyword; bytes = bs.now; place = p }
 spelled (Number bs p) = record { kind = due.Number; bytes = bs.now; place = p }
 spelled (Name bs p) = record { kind = due.Name; bytes = bs.now; place = p }
 
-abbrev pub taken : {E : Type 0} → Result Word E → Reader → Result (Step Spelled) E
-taken (Ok w) r = Ok (record { value = spelled w; rest = rest_of r })
+abbrev pub taken : {E : Type 0} → Result Word E → Rest → Result (Step Spelled) E
+taken (Ok w) r = Ok (record { value = spelled w; rest = r })
 taken (Err f) r = Err f
 
-abbrev pub seen : Result (Option Word) (Fault WordCause) → Reader → Result (Option (Step Spelled)) (Fault WordCause)
+abbrev pub seen : Result (Option Word) (Fault WordCause) → Rest → Result (Option (Step Spelled)) (Fault WordCause)
 seen (Ok None) r = Ok None
-seen (Ok (Some w)) r = Ok (Some (record { value = spelled w; rest = rest_of r }))
+seen (Ok (Some w)) r = Ok (Some (record { value = spelled w; rest = r }))
 seen (Err f) r = Err f
 
 -- where there is no word, only the blanks are gone
-abbrev pub BlanksGone : Result (Option Word) (Fault WordCause) → Rest → Reader → Type 0
-BlanksGone (Ok None) s r = rest_of r ≡ skipped s
+abbrev pub BlanksGone : Result (Option Word) (Fault WordCause) → Rest → Rest → Type 0
+BlanksGone (Ok None) s r = r ≡ skipped s
 BlanksGone (Ok (Some w)) s r = Unit {0}
-BlanksGone (Err f) s r = rest_of r ≡ skipped s
+BlanksGone (Err f) s r = r ≡ skipped s
 
-abbrev pub WordIsPart : Result (Option Word) (Fault WordCause) → Rest → Reader → Type 0
+abbrev pub WordIsPart : Result (Option Word) (Fault WordCause) → Rest → Rest → Type 0
 WordIsPart (Ok None) s r = Unit {0}
-WordIsPart (Ok (Some w)) s r = PartOf s (record { value = spelled w; rest = rest_of r })
+WordIsPart (Ok (Some w)) s r = PartOf s (record { value = spelled w; rest = r })
 WordIsPart (Err f) s r = Unit {0}

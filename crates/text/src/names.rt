@@ -1,6 +1,5 @@
 // Names: the words that a section lists, numbered by their position.
 ghost use Rattle.std.specs.Prelude.{◌≡◌, ◌^◌, ◌<◌, ◌≤◌, [], length, IfSome};
-ghost use Rattle.text.specs.Words.{rest_of};
 ghost use Rattle.text.specs.Report.{event_name};
 ghost use Rattle.text.specs.ProfileText.{texts, mode_word, index_of, more_names, read_names, named};
 
@@ -50,7 +49,7 @@ pub(crate) fn position(names: &[&[u8]], name: &[u8]) -> Option<usize>
 // Reads `n` names, none of them twice.
 fn name_list<'a, const N: usize>(reader: &mut Reader<'a>, n: usize) -> Result<Names<'a, N>, Fault>
     requires { n ≤ N }
-    ensures { named result reader.new ≡ more_names n [] (rest_of reader.old) }
+    ensures { named result reader.new ≡ more_names n [] reader.old }
 {
     let mut names = ArrayVec::new();
     for _ in 0..n {
@@ -69,7 +68,7 @@ pub(crate) fn name_section<'a, const N: usize>(
     heading: &[u8],
 ) -> Result<Names<'a, N>, Fault>
     requires { N < 2 ^ 16 }
-    ensures { named result reader.new ≡ read_names heading.now N (rest_of reader.old) }
+    ensures { named result reader.new ≡ read_names heading.now N reader.old }
 {
     keyword(reader, heading)?;
     let n = number(reader, 1, N as u16)?;

@@ -2,7 +2,6 @@
 ghost use Rattle.std.specs.Prelude.{◌≡◌, ◌<◌, ◌≤◌, true, false, length, [], IfOk};
 ghost use Rattle.profile.specs.Kinds.{event_kind};
 ghost use Rattle.profile.specs.Rules.{lawful_rule};
-ghost use Rattle.text.specs.Words.{rest_of};
 ghost use Rattle.text.specs.Sections.{stepped};
 ghost use Rattle.text.specs.Grammar.{Judged, OneReading};
 ghost use Rattle.text.specs.Places.{FaultStands};
@@ -19,7 +18,7 @@ use std::marker::Model;
 // Takes a name of a list and tells its number.
 fn index(reader: &mut Reader<'_>, names: &[&[u8]]) -> Result<u8, Fault>
     requires { length names.now ≤ 16 }
-    ensures value { stepped result reader.new ≡ read_index (texts names.now) (rest_of reader.old) }
+    ensures value { stepped result reader.new ≡ read_index (texts names.now) reader.old }
     ensures bound { IfOk result (λ i. i < length names.now) }
 {
     let word = word_due(reader, Due::Name)?;
@@ -31,7 +30,7 @@ fn index(reader: &mut Reader<'_>, names: &[&[u8]]) -> Result<u8, Fault>
 
 // Takes the mode of a rule, and tells where it stands.
 fn mode(reader: &mut Reader<'_>) -> Result<(Mode, Place), Fault>
-    ensures { stepped result reader.new ≡ read_mode (rest_of reader.old) }
+    ensures { stepped result reader.new ≡ read_mode reader.old }
 {
     let word = word_due(reader, Due::Keyword)?;
     match word.bytes() {
@@ -43,7 +42,7 @@ fn mode(reader: &mut Reader<'_>) -> Result<(Mode, Place), Fault>
 
 // Takes an event.
 fn event(reader: &mut Reader<'_>) -> Result<u8, Fault>
-    ensures value { stepped result reader.new ≡ read_index event_names (rest_of reader.old) }
+    ensures value { stepped result reader.new ≡ read_index event_names reader.old }
     ensures bound { IfOk result (λ i. i < 12) }
 {
     index(reader, &EVENTS)
@@ -73,7 +72,7 @@ impl<'a> Model for Vocabulary<'a> {
 impl Vocabulary<'_> {
     // Takes a state.
     fn state(&self, reader: &mut Reader<'_>) -> Result<u8, Fault>
-        ensures value { stepped result reader.new ≡ read_index self.now.states (rest_of reader.old) }
+        ensures value { stepped result reader.new ≡ read_index self.now.states reader.old }
         ensures bound { IfOk result (λ i. i < 8) }
     {
         index(reader, self.states.as_slice())
@@ -81,7 +80,7 @@ impl Vocabulary<'_> {
 
     // Takes a symbol.
     fn symbol(&self, reader: &mut Reader<'_>) -> Result<u8, Fault>
-        ensures value { stepped result reader.new ≡ read_index self.now.symbols (rest_of reader.old) }
+        ensures value { stepped result reader.new ≡ read_index self.now.symbols reader.old }
         ensures bound { IfOk result (λ i. i < 16) }
     {
         index(reader, self.symbols.as_slice())
@@ -89,7 +88,7 @@ impl Vocabulary<'_> {
 
     // Takes a symbol where one is used; where none is, it is 0.
     fn symbol_if(&self, reader: &mut Reader<'_>, used: bool) -> Result<u8, Fault>
-        ensures value { stepped result reader.new ≡ read_symbol_if used self.now.symbols (rest_of reader.old) }
+        ensures value { stepped result reader.new ≡ read_symbol_if used self.now.symbols reader.old }
         ensures bound { IfOk result (λ i. i < 16) }
         ensures unused { used ≡ false → IfOk result (λ i. i ≡ 0) }
     {
@@ -98,7 +97,7 @@ impl Vocabulary<'_> {
 
     // Takes a rule, and tells where it begins.
     fn rule(&self, reader: &mut Reader<'_>) -> Result<(Rule, Place), Fault>
-        ensures value { stepped result reader.new ≡ read_rule self.now.states self.now.symbols event_names (rest_of reader.old) }
+        ensures value { stepped result reader.new ≡ read_rule self.now.states self.now.symbols event_names reader.old }
         ensures lawful { IfOk result (λ x. lawful_rule event_kind x.0 ≡ true) }
     {
         let (mode, place) = mode(reader)?;
@@ -124,7 +123,7 @@ impl Vocabulary<'_> {
     // Takes `n` rules into a table, none of them twice, the mode aside.
     fn rule_list(&self, reader: &mut Reader<'_>, n: usize) -> Result<Table, Fault>
         requires { n ≤ 96 }
-        ensures { table_listed result reader.new ≡ more_rules self.now.states self.now.symbols event_names n [] (rest_of reader.old) }
+        ensures { table_listed result reader.new ≡ more_rules self.now.states self.now.symbols event_names n [] reader.old }
     {
         let mut table = Table::new();
         for _ in 0..n {
@@ -139,7 +138,7 @@ impl Vocabulary<'_> {
 
     // Takes the section of rules.
     fn rules(&self, reader: &mut Reader<'_>) -> Result<Table, Fault>
-        ensures { table_listed result reader.new ≡ read_rules self.now.states self.now.symbols event_names (rest_of reader.old) }
+        ensures { table_listed result reader.new ≡ read_rules self.now.states self.now.symbols event_names reader.old }
     {
         keyword(reader, b"rules")?;
         let n = number(reader, 0, 96)?;
@@ -148,7 +147,7 @@ impl Vocabulary<'_> {
 
     // Takes the section of the start: a state and a symbol.
     fn start(&self, reader: &mut Reader<'_>) -> Result<(u8, u8), Fault>
-        ensures value { stepped result reader.new ≡ read_start self.now.states self.now.symbols (rest_of reader.old) }
+        ensures value { stepped result reader.new ≡ read_start self.now.states self.now.symbols reader.old }
         ensures bound { IfOk result (λ s. (s.0 < 8) × (s.1 < 16)) }
     {
         keyword(reader, b"start")?;
@@ -160,7 +159,7 @@ impl Vocabulary<'_> {
 
     // Takes the rules and the start, and sees that nothing follows them.
     fn body(&self, reader: &mut Reader<'_>) -> Result<Table, Fault>
-        ensures { read_as result ≡ read_body self.now.states self.now.symbols event_names (rest_of reader.old) }
+        ensures { read_as result ≡ read_body self.now.states self.now.symbols event_names reader.old }
     {
         let mut table = self.rules(reader)?;
         let (state, symbol) = self.start(reader)?;
@@ -173,7 +172,7 @@ impl Vocabulary<'_> {
 
 // Takes all four sections.
 fn sections(reader: &mut Reader<'_>) -> Result<Table, Fault>
-    ensures { read_as result ≡ read_sections event_names (rest_of reader.old) }
+    ensures { read_as result ≡ read_sections event_names reader.old }
 {
     let states = name_section(reader, b"states")?;
     let symbols = name_section(reader, b"symbols")?;

@@ -2,7 +2,7 @@
 ghost use Rattle.std.specs.Prelude.{◌≡◌, ◌≤◌, IfOk};
 ghost use Rattle.std.specs.Str.{bytes_eq};
 ghost use Rattle.text.specs.declared.words.Due.TheVariants.{Keyword, Number};
-ghost use Rattle.text.specs.Words.{rest_of, taken, GoesOn};
+ghost use Rattle.text.specs.Words.{taken, GoesOn};
 ghost use Rattle.text.specs.Sections.{plain_number, stepped, word_due, read_keyword, read_number, read_end};
 
 use crate::fault::{Fault, SectionCause};
@@ -38,8 +38,8 @@ pub fn plain_number(bytes: &[u8]) -> Option<u16>
 
 // The next word, which has to be there.
 pub fn word_due<'a>(reader: &mut Reader<'a>, due: Due) -> Result<Word<'a>, Fault>
-    ensures value { taken result reader.new ≡ word_due due (rest_of reader.old) }
-    ensures goes_on { GoesOn due (rest_of reader.old) (rest_of reader.new) }
+    ensures value { taken result reader.new ≡ word_due due reader.old }
+    ensures goes_on { GoesOn due reader.old reader.new }
 {
     let end = reader.end();
     let Some(word) = reader.next(due)? else {
@@ -50,8 +50,8 @@ pub fn word_due<'a>(reader: &mut Reader<'a>, due: Due) -> Result<Word<'a>, Fault
 
 // Takes the keyword that is due.
 pub fn keyword(reader: &mut Reader<'_>, wanted: &[u8]) -> Result<(), Fault>
-    ensures value { stepped result reader.new ≡ read_keyword wanted.now (rest_of reader.old) }
-    ensures goes_on { GoesOn Keyword (rest_of reader.old) (rest_of reader.new) }
+    ensures value { stepped result reader.new ≡ read_keyword wanted.now reader.old }
+    ensures goes_on { GoesOn Keyword reader.old reader.new }
 {
     let word = word_due(reader, Due::Keyword)?;
     if word.bytes() != wanted {
@@ -62,9 +62,9 @@ pub fn keyword(reader: &mut Reader<'_>, wanted: &[u8]) -> Result<(), Fault>
 
 // Takes a plain number from `lo` to `hi`.
 pub fn number(reader: &mut Reader<'_>, lo: u16, hi: u16) -> Result<u16, Fault>
-    ensures value { stepped result reader.new ≡ read_number lo hi (rest_of reader.old) }
+    ensures value { stepped result reader.new ≡ read_number lo hi reader.old }
     ensures range { IfOk result (λ n. (lo ≤ n) × (n ≤ hi)) }
-    ensures goes_on { GoesOn Number (rest_of reader.old) (rest_of reader.new) }
+    ensures goes_on { GoesOn Number reader.old reader.new }
 {
     let word = word_due(reader, Due::Number)?;
     match plain_number(word.bytes()) {
@@ -75,8 +75,8 @@ pub fn number(reader: &mut Reader<'_>, lo: u16, hi: u16) -> Result<u16, Fault>
 
 // Sees that no word is left.
 pub fn finish(reader: &mut Reader<'_>) -> Result<(), Fault>
-    ensures value { result ≡ read_end (rest_of reader.old) }
-    ensures goes_on { GoesOn Keyword (rest_of reader.old) (rest_of reader.new) }
+    ensures value { result ≡ read_end reader.old }
+    ensures goes_on { GoesOn Keyword reader.old reader.new }
 {
     match reader.next(Due::Keyword)? {
         None => Ok(()),

@@ -1,7 +1,7 @@
 // Words (layer 1): runs of visible bytes between blanks, each a part of the text that was handed over.
 ghost use Rattle.std.specs.Prelude.{◌≡◌, ◌≤◌, IfOk, OnErr};
 ghost use Rattle.text.specs.Faults.{place_at};
-ghost use Rattle.text.specs.Words.{is_blank, run_end, word_at, next_word, begun, length_judged, rest_of, spelled, taken, seen, text_end, GoesOn, BlanksGone, WordIsPart};
+ghost use Rattle.text.specs.Words.{is_blank, run_end, word_at, next_word, begun, length_judged, spelled, taken, seen, text_end, GoesOn, BlanksGone, WordIsPart};
 
 use crate::fault::{Fault, Place, WordCause};
 use crate::reader::Reader;
@@ -69,14 +69,14 @@ pub fn judge_length(text: &[u8]) -> Result<(), Fault<WordCause>>
 impl<'a> Reader<'a> {
     // Begins to read a text.
     pub fn new(text: &'a [u8]) -> Reader<'a>
-        ensures { rest_of result ≡ begun text.now }
+        ensures { result ≡ begun text.now }
     {
         Reader { rest: text, at: 0 }
     }
 
     // The place where the text ends.
     pub fn end(&self) -> Place
-        ensures { result ≡ place_at (text_end (rest_of self.now)) }
+        ensures { result ≡ place_at (text_end self.now) }
     {
         Place {
             offset: self.at + self.rest.len(),
@@ -85,8 +85,8 @@ impl<'a> Reader<'a> {
 
     // The offset where the run of bytes at the front that are not blank ends.
     fn run_end(&self) -> Result<usize, Fault<WordCause>>
-        ensures value { result ≡ run_end self.now.rest.now self.now.at }
-        ensures bound { IfOk result (λ e. (self.now.at ≤ e) × (e ≤ text_end (rest_of self.now))) }
+        ensures value { result ≡ run_end self.now.bytes self.now.at }
+        ensures bound { IfOk result (λ e. (self.now.at ≤ e) × (e ≤ text_end self.now)) }
     {
         let mut rest = self.rest;
         let mut end = self.at;
@@ -105,9 +105,9 @@ impl<'a> Reader<'a> {
 
     // Takes the word at the front, read as what is due; a fault takes nothing.
     fn take_word(&mut self, due: Due) -> Result<Word<'a>, Fault<WordCause>>
-        ensures value { taken result self.new ≡ word_at due self.old.rest.now self.old.at }
-        ensures kept { OnErr result (rest_of self.new ≡ rest_of self.old) }
-        ensures end { text_end (rest_of self.new) ≡ text_end (rest_of self.old) }
+        ensures value { taken result self.new ≡ word_at due self.old.bytes self.old.at }
+        ensures kept { OnErr result (self.new ≡ self.old) }
+        ensures end { text_end self.new ≡ text_end self.old }
     {
         let n = self.run_end()? - self.at;
         let place = Place { offset: self.at };
@@ -122,9 +122,9 @@ impl<'a> Reader<'a> {
 
     // Skips blanks and takes the next word, if there is one.
     fn advance(&mut self, due: Due) -> Result<Option<Word<'a>>, Fault<WordCause>>
-        ensures value { seen result self.new ≡ next_word due (rest_of self.old) }
-        ensures left { BlanksGone result (rest_of self.old) self.new }
-        ensures end { text_end (rest_of self.new) ≡ text_end (rest_of self.old) }
+        ensures value { seen result self.new ≡ next_word due self.old }
+        ensures left { BlanksGone result self.old self.new }
+        ensures end { text_end self.new ≡ text_end self.old }
     {
         while let [b, more @ ..] = self.rest {
             if !is_blank(*b) {
@@ -138,10 +138,10 @@ impl<'a> Reader<'a> {
 
     // The next word, read as what is due, or nothing where only blanks are left.
     pub fn next(&mut self, due: Due) -> Result<Option<Word<'a>>, Fault<WordCause>>
-        ensures value { seen result self.new ≡ next_word due (rest_of self.old) }
-        ensures part { WordIsPart result (rest_of self.old) self.new }
-        ensures left { BlanksGone result (rest_of self.old) self.new }
-        ensures goes_on { GoesOn due (rest_of self.old) (rest_of self.new) }
+        ensures value { seen result self.new ≡ next_word due self.old }
+        ensures part { WordIsPart result self.old self.new }
+        ensures left { BlanksGone result self.old self.new }
+        ensures goes_on { GoesOn due self.old self.new }
     {
         self.advance(due)
     }
