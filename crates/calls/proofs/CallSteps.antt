@@ -11,10 +11,10 @@ use Rattle.text.specs.declared.words.Due.{Due}
 use Rattle.text.specs.declared.words.Word.{Word}
 use Rattle.text.specs.declared.words.Due.TheVariants.{Keyword, Number}
 use Rattle.text.specs.Faults.{place_at, word_fault, word_fault_in}
-use Rattle.text.specs.Words.{is_blank, Rest, Step, Spelled, run_end, cut_at, found, next_from, next_word, text_end, spelled, seen}
+use Rattle.text.specs.Words.{is_blank, Rest, Step, Spelled, run_end, front, cut_at, found, next_from, next_word, text_end, spelled, seen}
 use Rattle.text.specs.Sections.{and_then, there, word_due, in_range, plain_number}
-use Rattle.text.proofs.Spacing.{impossible, run_some}
-use Rattle.text.proofs.Dues.{then_ok, then_is, cond_ok, ok_same}
+use Rattle.text.proofs.Spacing.{run_some}
+use Rattle.text.proofs.Dues.{then_ok, then_is, cond_ok, ok_same, there_some}
 use Rattle.book.specs.declared.run.Call.{Call}
 use Rattle.book.specs.declared.run.Call.TheVariants as call
 use Rattle.book.specs.declared.run.Turn.{Turn}
@@ -29,33 +29,28 @@ pub end_seen : (o : Option Word) (now : Rest) (s : Rest) → seen (Ok o) now ≡
 end_seen o now s e is = sym e ∙ ap (λ (x : Option Word). seen (Ok x) now) is
 
 -- what is left gets shorter: a word has at least one byte
-cut_shrinks : (k : Due) (b : ℕ) (t : List ℕ) (p n : ℕ) (w : Step Spelled) → 1 ≤ n - p → (d : Bool) → found (cond d (Ok (record { value = record { kind = k; bytes = take (n - p) (b ∷ t); place = place_at p }; rest = record { bytes = drop (n - p) (b ∷ t); at = p + (n - p) } })) (Err (word_fault WordTooLong p))) ≡ Ok (Some w) → length w.rest.bytes < length (b ∷ t)
-cut_shrinks k b t p n w some false h = impossible (cc)
+cut_shrinks : (k : Due) (b : ℕ) (t : List ℕ) (p n : ℕ) (w : Step Spelled) → 1 ≤ n - p → (d : Bool) → found (cond d (Ok (front k (n - p) (b ∷ t) p)) (Err (word_fault WordTooLong p))) ≡ Ok (Some w) → length w.rest.bytes < length (b ∷ t)
+cut_shrinks k b t p n w some false h = cc
 cut_shrinks k b t p n w some true h =
-    let whole : ◌≡◌ {A = Step Spelled} (record { value = record { kind = k; bytes = take (n - p) (b ∷ t); place = place_at p }; rest = record { bytes = drop (n - p) (b ∷ t); at = p + (n - p) } }) w = cc in
+    let whole : ◌≡◌ {A = Step Spelled} (front k (n - p) (b ∷ t) p) w = cc in
     let back : length (drop (n - p) (b ∷ t)) ≡ length w.rest.bytes = ap (λ (x : Step Spelled). length x.rest.bytes) whole in
     let left = length-drop (n - p) (b ∷ t) in
     omega arith
 
 at_shrinks : (k : Due) (b : ℕ) (t : List ℕ) (p : ℕ) (w : Step Spelled) → is_blank b ≡ false → (r : Result ℕ (Fault WordCause)) → run_end (b ∷ t) p ≡ r → found (cut_at k (b ∷ t) p r) ≡ Ok (Some w) → length w.rest.bytes < length (b ∷ t)
-at_shrinks k b t p w nb (Err f) e h = impossible (cc)
+at_shrinks k b t p w nb (Err f) e h = cc
 at_shrinks k b t p w nb (Ok n) e h = cut_shrinks k b t p n w (run_some b t p n nb e) (leb (n - p) 16) h
 
 pub next_shrinks : (k : Due) (t : List ℕ) (p : ℕ) (w : Step Spelled) → next_from k t p ≡ Ok (Some w) → length w.rest.bytes < length t
-next_shrinks k [] p w h = impossible (cc)
+next_shrinks k [] p w h = cc
 next_shrinks k (b ∷ t) p w h =
     elim (cases_Bool (is_blank b)) [
       | inl on ↦ (let l = next_shrinks k t (p + 1) w (sym (cond-true _ _ _ on) ∙ h) in omega arith)
       | inr off ↦ at_shrinks k b t p w off (run_end (b ∷ t) p) refl (sym (cond-false _ _ _ off) ∙ h)
     ]
 
-there_some : (e : ℕ) (r : Result (Option (Step Spelled)) (Fault WordCause)) (w : Step Spelled) → there e r ≡ Ok w → r ≡ Ok (Some w)
-there_some e (Ok None) w h = impossible (cc)
-there_some e (Ok (Some x)) w h = let f : x ≡ w = cc in ap (λ (y : Step Spelled). Ok (Some y)) f
-there_some e (Err f) w h = impossible (cc)
-
 range_keeps : (lo hi : ℕ) (w : Step Spelled) (o : Option ℕ) (n : Step ℕ) → in_range lo hi w o ≡ Ok n → w.rest ≡ n.rest
-range_keeps lo hi w None n h = impossible (cc)
+range_keeps lo hi w None n h = cc
 range_keeps lo hi w (Some m) n h = ap (λ (x : Step ℕ). x.rest) (ok_same (cond_ok _ _ _ _ h).1)
 
 operand_shrinks : (s : Rest) (n : Step ℕ) → read_operand s ≡ Ok n → length n.rest.bytes ≤ length s.bytes
@@ -148,7 +143,7 @@ pub all_so_far : (from : Rest) (ts : List Turn) (s : Rest) → next_word Keyword
 all_so_far from ts s h so = sym so.same ∙ ended (length from.bytes - length ts) (calls_of ts) s h
 
 some_left : (k : Due) (t : List ℕ) (p : ℕ) (f : Fault WordCause) → next_from k t p ≡ Err f → 1 ≤ length t
-some_left k [] p f h = impossible (cc)
+some_left k [] p f h = cc
 some_left k (b ∷ t) p f h = omega arith
 
 pub word_fault_so_far : (from : Rest) (ts : List Turn) (s : Rest) (f : Fault WordCause) → next_word Keyword s ≡ Err f → SoFar from ts s → all_calls from ≡ Err (word_fault_in f)

@@ -13,7 +13,8 @@ use Rattle.text.specs.Words.{Rest, Step, Spelled, begun, length_judged, next_wor
 use Rattle.text.specs.Sections.{read_keyword, read_number}
 use Rattle.text.specs.ProfileText.{judged}
 use Rattle.text.specs.Grammar.{Spaced, ends}
-use Rattle.text.proofs.Spacing.{impossible, Takes, takes_none, takes_then, next_of, none_of, word_of, end_of}
+use Rattle.text.proofs.Spacing.{Takes, takes_none, takes_then, next_of, none_of, word_of, end_of}
+use Rattle.text.proofs.Saying.{short_text, read_short}
 use Rattle.text.proofs.Dues.{then_ok, then_is, cond_ok, ok_same, same_bytes, bytes_same, keyword_takes, keyword_reads, number_takes, number_reads}
 use Rattle.book.specs.declared.run.Call.{Call}
 use Rattle.book.specs.declared.run.Call.TheVariants as call
@@ -119,21 +120,11 @@ call_or_none k before s cs few again (Ok (Some w)) n e =
     let i = next_shrinks Keyword s.bytes s.at w n in
     let j = call_shrinks w p.0 p.1 in
     one_more before s cs w p.0 n (call_takes w p.0 p.1) (again (before ++ p.0.value ∷ []) p.0.rest (omega arith) p.2)
-call_or_none k before s cs few again (Err f) n e = impossible (cc)
+call_or_none k before s cs few again (Err f) n e = cc
 
 more_take : (k : ℕ) (before : List Call) (s : Rest) (cs : List Call) → length s.bytes ≤ k → more_calls k before s ≡ Ok cs → CallsTaken before s cs
 more_take zero before s cs few h = no_more before s cs (nothing_left s.bytes few) h
 more_take (suc k) before s cs few h = call_or_none k before s cs few (λ b t. more_take k b t cs) (next_word Keyword s) refl h
-
--- the length of a text
-short_text : {T : Type 0} (t : List ℕ) (r : Result T (Fault Cause)) (x : T) → judged (length_judged t) r ≡ Ok x → (length t ≤ 20000) × (r ≡ Ok x)
-short_text {T} t r x = at (leb (length t) 20000) refl where
-  at : (b : Bool) → leb (length t) 20000 ≡ b → judged {T = T} (cond b (Ok tt) (Err (word_fault TextTooLong 0))) r ≡ Ok x → (length t ≤ 20000) × (r ≡ Ok x)
-  at true e h = (leb-true (length t) 20000 e, h)
-  at false e h = impossible (cc)
-
-read_short : {T : Type 0} (t : List ℕ) (r : Result T (Fault Cause)) → length t ≤ 20000 → judged (length_judged t) r ≡ r
-read_short {T} t r h = ap (λ (x : Result (Unit {0}) (Fault WordCause)). judged {T = T} x r) (cond-true _ _ _ (le-leb (length t) 20000 h))
 
 -- accepted texts say what was read
 accepted_says : (text : List ℕ) (lend : ℕ) (calls : List Call) → read_calls text ≡ Ok (lend, calls) → SaysCalls text lend calls
@@ -260,7 +251,7 @@ says_one text lend more calls others a b =
     (ap (λ (p : ℕ × List Call). p.0) same, ap (λ (p : ℕ × List Call). p.1) same)
 
 refused_says : (text : List ℕ) (f : Fault Cause) (lend : ℕ) (calls : List Call) → read_calls text ≡ Err f → SaysCalls text lend calls → ⊥
-refused_says text f lend calls e s = let g = sym (said_accepted text lend calls s) ∙ e in impossible (cc)
+refused_says text f lend calls e s = let g = sym (said_accepted text lend calls s) ∙ e in cc
 
 pub judged_by_grammar : (text : List ℕ) (r : Result Script Unread) → TextRead text r → CallsJudged text r
 judged_by_grammar text (Ok script) h = accepted_says text script.lend _ h.0

@@ -54,7 +54,7 @@ word_reads k s u ws h =
     let n = next_of k s.bytes s.at u ws h in
     record { step = n.step; is = ap (there (text_end s)) n.is; bytes = n.bytes; left = n.left }
 
-there_some : (e : ℕ) (r : Result (Option (Step Spelled)) (Fault WordCause)) (w : Step Spelled) → there e r ≡ Ok w → r ≡ Ok (Some w)
+pub there_some : (e : ℕ) (r : Result (Option (Step Spelled)) (Fault WordCause)) (w : Step Spelled) → there e r ≡ Ok w → r ≡ Ok (Some w)
 there_some e (Ok None) w h = cc
 there_some e (Ok (Some x)) w h = let f : x ≡ w = cc in ap (λ (y : Step Spelled). Ok (Some y)) f
 there_some e (Err f) w h = cc

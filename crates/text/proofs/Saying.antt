@@ -59,13 +59,13 @@ start_reads states symbols start s ws ds dx hs hx h =
     }
 
 -- the length of a text
-short_text : {T : Type 0} (t : List ℕ) (r : Result T (Fault Cause)) (x : T) → judged (length_judged t) r ≡ Ok x → (length t ≤ 20000) × (r ≡ Ok x)
+pub short_text : {T : Type 0} (t : List ℕ) (r : Result T (Fault Cause)) (x : T) → judged (length_judged t) r ≡ Ok x → (length t ≤ 20000) × (r ≡ Ok x)
 short_text {T} t r x = at (leb (length t) 20000) refl where
   at : (b : Bool) → leb (length t) 20000 ≡ b → judged {T = T} (cond b (Ok tt) (Err (word_fault TextTooLong 0))) r ≡ Ok x → (length t ≤ 20000) × (r ≡ Ok x)
   at true e h = (leb-true (length t) 20000 e, h)
   at false e h = cc
 
-read_short : {T : Type 0} (t : List ℕ) (r : Result T (Fault Cause)) → length t ≤ 20000 → judged (length_judged t) r ≡ r
+pub read_short : {T : Type 0} (t : List ℕ) (r : Result T (Fault Cause)) → length t ≤ 20000 → judged (length_judged t) r ≡ r
 read_short {T} t r h = ap (λ (x : Result (Unit {0}) (Fault WordCause)). judged {T = T} x r) (cond-true _ _ _ (le-leb (length t) 20000 h))
 
 -- accepted texts say what was read

@@ -10,10 +10,6 @@ use Rattle.text.specs.Faults.{word_fault}
 use Rattle.text.specs.Words.{is_blank, is_visible, Rest, Step, Spelled, run_end, front, cut, cut_at, word_at, found, next_from}
 use Rattle.text.specs.Grammar.{Blank, Visible, IsWord, BlankOrEnd, Spaced, ends, blank, word}
 
--- what follows from 0 being 1; where two constructors are equal, `cc` says it
-pub impossible : {P : Type 0} → ◌≡◌ {A = ℕ} 0 1 → P
-impossible z = absurd (omega arith)
-
 -- the tests say what the grammar says
 pub blank_from_test : (b : ℕ) → is_blank b ≡ true → Blank b
 blank_from_test b h = elim (or_cases _ _ h) [ inl e ↦ inl (eqb-true b 32 e) | inr e ↦ inr (eqb-true b 10 e) ]

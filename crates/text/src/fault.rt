@@ -73,7 +73,7 @@ impl From<ProfileCause> for Cause {
 }
 
 impl Cause {
-    // The number by which the cause is told.
+    // The number by which the cause is told. By cases: all numbers that partners are told stand in one table.
     pub fn number(self) -> u8
         ensures { result ≡ cause_number self }
     {

@@ -19,7 +19,7 @@ pub(crate) const EVENTS: [&[u8]; 12] = [
     b"caldone", b"sent", b"leave",
 ];
 
-// The word for a mode.
+// The word for a mode. A function: `Mode` is another crate's, which knows no words, so that no `From` can stand here.
 pub(crate) fn mode_word(mode: Mode) -> &'static [u8]
     ensures word { result.now ≡ mode_word mode }
     ensures bound { length result.now ≤ 4 }

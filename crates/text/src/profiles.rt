@@ -128,7 +128,8 @@ impl Vocabulary<'_> {
         let mut table = Table::new();
         for _ in 0..n {
             let (rule, place) = self.rule(reader)?;
-            // The rule is lawful and there is room, so that only a double is refused.
+            // The rule is lawful and there is room, so that only a double is refused. By `is_err`: before a `?` the fault
+            // would need its type written out.
             if table.add(rule).is_err() {
                 return Err(Fault::new(ProfileCause::RuleTwice, place));
             }

@@ -9,7 +9,7 @@ use crate::fault::{Fault, SectionCause};
 use crate::reader::Reader;
 use crate::words::{Due, Word};
 
-// Whether two words are spelled alike.
+// Whether two words are spelled alike: `==`, by the name that the crates above ask for it.
 pub fn alike(a: &[u8], b: &[u8]) -> bool
     ensures { result ≡ bytes_eq a.now b.now }
 {

@@ -14,7 +14,8 @@ pub enum Due {
     Name,
 }
 
-// A word, as what it is due: its bytes, which are a part of the text, and its place.
+// A word, as what it is due: its bytes, which are a part of the text, and its place. A case for each due, so that a
+// match sees what the word was read as.
 #[derive(Clone, Copy)]
 pub enum Word<'a> {
     Keyword(&'a [u8], Place),
@@ -88,6 +89,7 @@ impl<'a> Reader<'a> {
         ensures value { result ≡ run_end self.now.bytes self.now.at }
         ensures bound { IfOk result (λ e. (self.now.at ≤ e) × (e ≤ text_end self.now)) }
     {
+        // Byte by byte: a text is taken apart as its first byte and the rest.
         let mut rest = self.rest;
         let mut end = self.at;
         while let [b, more @ ..] = rest {
@@ -126,6 +128,7 @@ impl<'a> Reader<'a> {
         ensures left { BlanksGone result self.old self.new }
         ensures end { text_end self.new ≡ text_end self.old }
     {
+        // Byte by byte, as a run.
         while let [b, more @ ..] = self.rest {
             if !is_blank(*b) {
                 return self.take_word(due).map(Some);
