@@ -1,5 +1,5 @@
 -- The calls of a text, one after the other.
-use Rattle.std.proofs.Common.{◌≡◌, ℕ, zero, suc, ◌+◌, ◌-◌, ◌<◌, ◌≤◌, Bool, true, false, cond, leb, List, [], ◌∷◌, ◌++◌, map, length, take, drop, Some, None, Ok, Err, codes, Option, Result, sym, refl, ap, ◌∙◌, inl, inr, arith, length-append, length-drop}
+use Rattle.std.proofs.Common.{◌≡◌, ℕ, zero, suc, ◌+◌, ◌-◌, ◌<◌, ◌≤◌, Bool, true, false, cond, leb, List, [], ◌∷◌, ◌++◌, map, length, drop, Some, None, Ok, Err, codes, Option, Result, sym, refl, ap, ◌∙◌, inl, inr, arith, length-append, length-drop}
 use Rattle.std.proofs.lemmas.List.{map-append}
 use Rattle.std.proofs.lemmas.Bool.{cond-true, cond-false, cases_Bool}
 use Rattle.std.specs.Str.{bytes_eq}
@@ -10,9 +10,9 @@ use Rattle.text.specs.declared.fault.WordCause.TheVariants.{WordTooLong}
 use Rattle.text.specs.declared.words.Due.{Due}
 use Rattle.text.specs.declared.words.Word.{Word}
 use Rattle.text.specs.declared.words.Due.TheVariants.{Keyword, Number}
-use Rattle.text.specs.Faults.{place_at, word_fault, word_fault_in}
+use Rattle.text.specs.Faults.{word_fault, word_fault_in}
 use Rattle.text.specs.Words.{is_blank, Rest, Step, Spelled, run_end, front, cut_at, found, next_from, next_word, text_end, spelled, seen}
-use Rattle.text.specs.Sections.{and_then, there, word_due, in_range, plain_number}
+use Rattle.text.specs.Sections.{and_then, word_due, in_range, plain_number}
 use Rattle.text.proofs.Spacing.{run_some}
 use Rattle.text.proofs.Dues.{then_ok, then_is, cond_ok, ok_same, there_some}
 use Rattle.book.specs.declared.run.Call.{Call}

@@ -1,17 +1,14 @@
 -- A text of calls is accepted just where the grammar says what it says, and no text says two things.
-use Rattle.std.proofs.Common.{◌≡◌, ℕ, zero, suc, ◌≤◌, Bool, true, false, cond, leb, List, [], ◌∷◌, ◌++◌, length, Some, None, Ok, Err, codes, decimal, Option, Result, sym, refl, ap, ◌∙◌, subst, inl, inr, append_assoc, arith}
+use Rattle.std.proofs.Common.{◌≡◌, ℕ, zero, suc, ◌≤◌, true, false, List, [], ◌∷◌, ◌++◌, length, Some, None, Ok, Err, codes, decimal, Option, Result, sym, refl, ap, ◌∙◌, subst, inl, inr, append_assoc, arith}
 use Rattle.std.proofs.lemmas.List.{append-nil}
-use Rattle.std.proofs.lemmas.Bool.{cond-true, cond-false, cases_Bool, leb-true, le-leb}
+use Rattle.std.proofs.lemmas.Bool.{cond-true, cond-false, cases_Bool}
 use Rattle.std.specs.Str.{bytes_eq}
 use Rattle.text.specs.declared.fault.WordCause.{WordCause}
 use Rattle.text.specs.declared.fault.Cause.{Cause}
 use Rattle.text.specs.declared.fault.Fault.{Fault}
-use Rattle.text.specs.declared.fault.WordCause.TheVariants.{TextTooLong}
 use Rattle.text.specs.declared.words.Due.TheVariants.{Keyword}
-use Rattle.text.specs.Faults.{word_fault}
-use Rattle.text.specs.Words.{Rest, Step, Spelled, begun, length_judged, next_word}
+use Rattle.text.specs.Words.{Rest, Step, Spelled, begun, next_word}
 use Rattle.text.specs.Sections.{read_keyword, read_number}
-use Rattle.text.specs.ProfileText.{judged}
 use Rattle.text.specs.Grammar.{Spaced, ends}
 use Rattle.text.proofs.Spacing.{Takes, takes_none, takes_then, next_of, none_of, word_of, end_of}
 use Rattle.text.proofs.Saying.{short_text, read_short}
