@@ -2,6 +2,7 @@
 use Rattle.std.proofs.Common.{◌≡◌, ℕ, ◌-◌, ◌≤◌, List, [], ◌++◌, map, take, IfOk, Ok, Err, codes, Result, sym, ap, ◌∙◌, subst, arith}
 use Rattle.std.proofs.lemmas.List.{take-take}
 use Rattle.std.proofs.lemmas.Result.{IfOk-weaker}
+use Rattle.text.specs.declared.fault.Cause.{Cause}
 use Rattle.text.specs.declared.fault.Fault.{Fault}
 use Rattle.text.specs.ProfileText.{Reading, read_profile}
 use Rattle.game.specs.declared.Row.{Row}
@@ -32,12 +33,12 @@ has_run station manual lend calls bytes given turns was rows book fresh blank g 
 }
 
 -- which text was refused
-module _ {X E : Type 0} (bytes : X → List ℕ) (r : Result X E) (station manual calls : List ℕ) (f : Fault) where
+module _ {X E : Type 0} (bytes : X → List ℕ) (r : Result X E) (station manual calls : List ℕ) (f : Fault Cause) where
   pub station_refused : read_profile station ≡ Err f → IfOk r (λ s. bytes s ≡ refused_text (codes "station") f) → IfOk r (λ s. Told station manual calls (bytes s))
-  station_refused e h = IfOk-weaker r _ _ (λ s k. subst (λ (x : Result Reading Fault). StationTold x manual calls (bytes s)) (sym e) k) h
+  station_refused e h = IfOk-weaker r _ _ (λ s k. subst (λ (x : Result Reading (Fault Cause)). StationTold x manual calls (bytes s)) (sym e) k) h
 
   pub manual_refused : (p : Reading) → read_profile station ≡ Ok p → read_profile manual ≡ Err f → IfOk r (λ s. bytes s ≡ refused_text (codes "manual") f) → IfOk r (λ s. Told station manual calls (bytes s))
   manual_refused p d e h =
       IfOk-weaker r _ _ (λ s k.
-      subst (λ (x : Result Reading Fault). StationTold x manual calls (bytes s)) (sym d)
-      (subst (λ (x : Result Reading Fault). ManualTold p x calls (bytes s)) (sym e) k)) h
+      subst (λ (x : Result Reading (Fault Cause)). StationTold x manual calls (bytes s)) (sym d)
+      (subst (λ (x : Result Reading (Fault Cause)). ManualTold p x calls (bytes s)) (sym e) k)) h

@@ -4,7 +4,6 @@ use Rattle.std.proofs.lemmas.List.{append-nil, at_drop_more, at_drop_all, take_a
 use Rattle.text.specs.declared.write.TooFewBytes.{TooFewBytes}
 use Rattle.text.specs.Report.{line_end}
 use Rattle.text.specs.Writing.{write_answer, write_after}
-use Rattle.text.proofs.Spacing.{impossible}
 use Rattle.game.specs.declared.Line.TheVariants as line
 use Rattle.game.specs.declared.Row.{Row}
 use Rattle.book.specs.declared.run.Turn.{Turn}
@@ -54,4 +53,4 @@ written_is bs lent is n = at (leb (length bs) (length lent)) where
       let same : n ≡ length bs = cc in
       let long : length bs ≡ n - 0 = omega arith in
       ap (take (n - 0)) f ∙ take_at bs (drop (length bs) lent) (n - 0) long
-  at false e f = impossible (cc)
+  at false e f = cc

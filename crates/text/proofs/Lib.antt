@@ -1,8 +1,6 @@
-pub mod Steps
 pub mod NameSteps
 pub mod RuleSteps
 pub mod Overlays
-pub mod EventNames
 pub mod SlotSteps
 pub mod Spacing
 pub mod Parts

@@ -4,6 +4,7 @@ use Rattle.std.proofs.lemmas.List.{at_drop_more, drop_all}
 use Rattle.std.proofs.lemmas.Bool.{cond-true, cond-false, le-leb, lt-leb}
 use Rattle.profile.specs.declared.Rule.{Rule}
 use Rattle.profile.specs.declared.table.Table.{Table}
+use Rattle.text.specs.declared.fault.Cause.{Cause}
 use Rattle.text.specs.declared.fault.Fault.{Fault}
 use Rattle.text.specs.ProfileText.{ReadInto, read_profile}
 use Rattle.text.specs.Writing.{Wrote, write_answer, write_after}
@@ -30,11 +31,11 @@ written_whole bs lent none left is n m w h v =
     (ap Ok e ∙ sym (cond-true _ _ _ t), v.laid ∙ overlay_whole lent bs k ∙ sym (cond-true _ _ _ t))
 
 -- what the code holds after a reading is the reading
-outcome_read : (text : List ℕ) (r : Result (Unit {0}) Fault) (was is : Table) → ReadInto text r was is → outcome r is ≡ read_profile text
+outcome_read : (text : List ℕ) (r : Result (Unit {0}) (Fault Cause)) (was is : Table) → ReadInto text r was is → outcome r is ≡ read_profile text
 outcome_read text (Ok done) was is h = sym h
 outcome_read text (Err f) was is h = sym h.0
 
-pub report_read : (text : List ℕ) (r : Result (Unit {0}) Fault) (was is : Table) → ReadInto text r was is → report_of (outcome r is) ≡ lint_bytes text
+pub report_read : (text : List ℕ) (r : Result (Unit {0}) (Fault Cause)) (was is : Table) → ReadInto text r was is → report_of (outcome r is) ≡ lint_bytes text
 report_read text r was is h = ap report_of (outcome_read text r was is h)
 
 pub short_report : {was is : List ℕ} {n : ℕ} {xs ys : List ℕ} → xs ≡ ys → Wrote was 0 xs n is → n ≤ 20000 → length ys ≤ 20000
