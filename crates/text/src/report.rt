@@ -1,5 +1,5 @@
 // What is told of a profile text, as bytes that the caller lends.
-ghost use Rattle.std.specs.Prelude.{◌≡◌, ◌+◌, ◌≤◌, length};
+ghost use Rattle.std.specs.Prelude.{◌≡◌, ◌+◌, ◌≤◌, length, Some};
 ghost use Rattle.text.specs.ProfileText.{reading_of};
 ghost use Rattle.text.specs.Writing.{Puts, write_answer, write_after};
 ghost use Rattle.text.specs.Report.{shown_symbol_if, slot_line, refusal_line, accepted_lines, lint_bytes};
@@ -9,6 +9,7 @@ use crate::names::{event_name, mode_word};
 use crate::profiles::{read_profile, used_by};
 use crate::write::{Lent, Told, TooFewBytes, lend};
 use profile::{Profile, Rule, Table};
+use std::{fmt, str};
 
 // A symbol, where the rule lists one.
 fn put_symbol_if(lent: &mut Lent<'_>, used: bool, symbol: u8)
@@ -100,6 +101,18 @@ pub fn write_fault(fault: &Fault, out: &mut [u8]) -> Result<usize, TooFewBytes>
     ensures short { length (refusal_line fault.now) ≤ 100 }
 {
     lend(fault, out)
+}
+
+// A fault is printed as the line of its refusal, which has at most 100 bytes.
+impl fmt::Display for Fault {
+    ghost output = { λ f. Some (refusal_line f) };
+
+    fn fmt<W: fmt::Write>(&self, f: &mut fmt::Formatter<W>) -> fmt::Result {
+        let mut lent = [0u8; 100];
+        let n = write_fault(self, &mut lent).map_err(|_| fmt::Error)?;
+        let line = str::from_utf8(&lent[..n]).map_err(|_| fmt::Error)?;
+        f.write_str(line)
+    }
 }
 
 // As many bytes are enough for every report.
