@@ -1,5 +1,5 @@
 -- What is told of three texts, from what each function told.
-use Rattle.std.proofs.Common.{◌≡◌, ℕ, ◌-◌, ◌≤◌, List, [], ◌++◌, map, take, IfOk, Ok, Err, codes, Result, sym, ap, ◌∙◌, subst, arith}
+use Rattle.std.proofs.Common.{◌≡◌, ℕ, ◌≤◌, List, [], ◌++◌, map, take, IfOk, Ok, Err, codes, Result, sym, ap, ◌∙◌, subst}
 use Rattle.std.proofs.lemmas.List.{take-take}
 use Rattle.std.proofs.lemmas.Result.{IfOk-weaker}
 use Rattle.text.specs.declared.fault.Cause.{Cause}
@@ -15,11 +15,10 @@ use Rattle.calls.specs.Printing.{turns_text, rows_text}
 use Rattle.calls.specs.Judging.{lent_rows, Guaranteed, Ran, refused_text, ManualTold, StationTold, Told}
 
 -- the answers and the held rows, one after the other
-pub told_is : (bytes mid none : List ℕ) (turns : List Turn) (rows : List Row) (n : ℕ) (book : Book) → none ≡ [] → mid ≡ none ++ turns_text turns → bytes ≡ mid ++ rows_text (take (n - 0) rows) → n ≡ held_of book → held_of book ≤ 1024 → bytes ≡ turns_text turns ++ rows_text (held_rows rows (held_of book))
+pub told_is : (bytes mid none : List ℕ) (turns : List Turn) (rows : List Row) (n : ℕ) (book : Book) → none ≡ [] → mid ≡ none ++ turns_text turns → bytes ≡ mid ++ rows_text (take n rows) → n ≡ held_of book → held_of book ≤ 1024 → bytes ≡ turns_text turns ++ rows_text (held_rows rows (held_of book))
 told_is bytes mid none turns rows n book nothing first then same few =
-    let count : n - 0 ≡ held_of book = omega arith in
-    then ∙ ap (λ (l : List ℕ). l ++ rows_text (take (n - 0) rows)) (first ∙ ap (λ (l : List ℕ). l ++ turns_text turns) nothing) ∙
-    ap (λ (l : List Row). turns_text turns ++ rows_text l) (ap (λ k. take k rows) count ∙ sym (take-take (held_of book) 1024 rows few))
+    then ∙ ap (λ (l : List ℕ). l ++ rows_text (take n rows)) (first ∙ ap (λ (l : List ℕ). l ++ turns_text turns) nothing) ∙
+    ap (λ (l : List Row). turns_text turns ++ rows_text l) (ap (λ k. take k rows) same ∙ sym (take-take (held_of book) 1024 rows few))
 
 pub has_run : (station manual : Reading) (lend : ℕ) (calls : List Call) (bytes : List ℕ) (given turns : List Turn) (was rows : List Row) (book : Book) → given ≡ map to_be_made calls → was ≡ lent_rows lend → Guaranteed station manual given turns was book rows → bytes ≡ turns_text turns ++ rows_text (held_rows rows (held_of book)) → Ran station manual lend calls bytes
 has_run station manual lend calls bytes given turns was rows book fresh blank g told = record {

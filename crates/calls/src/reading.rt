@@ -30,6 +30,7 @@ pub enum Unread {
     NoMemory,
 }
 
+// By hand: which fault it was is promised, and what a derive writes has no contract.
 impl From<Fault> for Unread {
     ghost from_gives = { λ f r. r ≡ UnreadFor f };
 
@@ -91,6 +92,7 @@ fn two_rows(reader: &mut Reader<'_>) -> Result<Call, Fault>
 fn call_at(word: Word<'_>, reader: &mut Reader<'_>) -> Result<Call, Fault>
     ensures { stepped result reader.new ≡ read_call (record { value = spelled word.entry; rest = reader.old }) }
 {
+    // By `alike`: in a `match` on byte strings each byte is a case, and that the last arm is reached by no call was not proved.
     let bytes = word.bytes();
     if alike(bytes, b"enter") {
         return attack(reader);

@@ -1,7 +1,5 @@
 pub mod NameSteps
 pub mod RuleSteps
-pub mod Overlays
-pub mod SlotSteps
 pub mod Spacing
 pub mod Parts
 pub mod PlainNumbers
@@ -11,3 +9,4 @@ pub mod Ruling
 pub mod Listing
 pub mod Saying
 pub mod Standing
+pub mod Putting

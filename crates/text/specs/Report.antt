@@ -1,13 +1,12 @@
 -- What is told of a profile text: its reading, slot by slot, or its fault.
 use Rattle.std.specs.Prelude.{ℕ, ◌+◌, Bool, true, false, List, [], ◌∷◌, ◌++◌, Ok, Err, codes, decimal, Result, nat_le, slice_index_or}
 use Rattle.profile.specs.declared.Rule.{Rule}
-use Rattle.profile.specs.declared.table.Table.{Table}
 use Rattle.profile.specs.Kinds.{event_kind}
 use Rattle.text.specs.declared.fault.Cause.{Cause}
 use Rattle.text.specs.declared.fault.Fault.{Fault}
 use Rattle.text.specs.declared.fault.Place.{Place}
 use Rattle.text.specs.Faults.{cause_number, cause_layer}
-use Rattle.text.specs.ProfileText.{mode_word, event_names, used_by, Reading, reading_of, read_profile}
+use Rattle.text.specs.ProfileText.{mode_word, event_names, used_by, Reading, read_profile}
 
 -- the end of a line
 abbrev pub line_end : List ℕ
@@ -62,8 +61,3 @@ report_of (Err f) = refusal_line f
 -- all that is told of a text
 abbrev pub lint_bytes : List ℕ → List ℕ
 lint_bytes text = report_of (read_profile text)
-
--- what the code holds of an outcome
-abbrev pub outcome : Result (Unit {0}) (Fault Cause) → Table → Result Reading (Fault Cause)
-outcome (Ok done) t = Ok (reading_of t)
-outcome (Err f) t = Err f
