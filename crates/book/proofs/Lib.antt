@@ -9,11 +9,8 @@ pub mod Searching
 pub mod Stepping
 pub mod Inserting
 pub mod Collecting
-pub mod Putting
-pub mod Copying
+pub mod Replacing
 pub mod Scanning
-pub mod Sameness
-pub mod Splitting
 pub mod Offering
 pub mod Drafting
 pub mod Trials

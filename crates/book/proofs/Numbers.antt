@@ -1,11 +1,11 @@
 -- Elements of lists by their numbers, and rows as they are written.
 use Rattle.std.proofs.Common.{◌≡◌, ℕ, zero, suc, ◌-◌, ◌≤◌, min, List, [], ◌∷◌, ◌++◌, length, get_or, take, replicate, Some, None, Option, sym, refl, ap, ◌∙◌, inl, inr, arith}
+use Rattle.std.proofs.lemmas.Option.{none-some, same_Some}
 use Rattle.std.proofs.lemmas.List.{take_at, map-append, length-map}
 use Rattle.ordered.specs.Laws.{In}
 use Rattle.game.specs.declared.Line.{Line}
 use Rattle.game.specs.declared.Row.{Row}
 use Rattle.game.specs.Members.{AttackRow, row_of}
-use Rattle.game.proofs.Gathering.{some_same, some_is_not_none}
 use Rattle.book.specs.Offers.{said, row_at, written, lines, blank_member}
 
 -- a row that is written is read as itself
@@ -33,8 +33,8 @@ said_written rows row line h =
 
 -- the row with a number is among the rows, and every row has a number
 pub row_at_is_in : (rows : List AttackRow) (i : ℕ) (row : AttackRow) → row_at rows i ≡ Some row → In row rows
-row_at_is_in [] i row e = absurd (some_is_not_none row (sym e))
-row_at_is_in (r ∷ rs) zero row e = inl (sym (some_same r row e))
+row_at_is_in [] i row e = absurd (none-some row e)
+row_at_is_in (r ∷ rs) zero row e = inl (sym (same_Some r row e))
 row_at_is_in (r ∷ rs) (suc i) row e = inr (row_at_is_in rs i row e)
 
 pub row_has_number : (rows : List AttackRow) (row : AttackRow) → In row rows → (i : ℕ) × (row_at rows i ≡ Some row)
@@ -44,7 +44,7 @@ row_has_number (r ∷ rs) row (inr k) = let (i, e) = row_has_number rs row k in 
 
 -- the same for slots
 pub slot_is_in : {A : Type 0} (slots : List (Option A)) (i : ℕ) (r : A) → get_or slots i None ≡ Some r → In (Some r) slots
-slot_is_in [] i r e = absurd (some_is_not_none r (sym e))
+slot_is_in [] i r e = absurd (none-some r e)
 slot_is_in (s ∷ slots) zero r e = inl (sym e)
 slot_is_in (s ∷ slots) (suc i) r e = inr (slot_is_in slots i r e)
 

@@ -14,10 +14,9 @@ use Rattle.game.specs.Rows.{entered, with_pairs, put_in}
 use Rattle.game.specs.Computed.{any_of, called_for, is_top, pairless, front_of, last_of, joined_last, joined_members, joined}
 use Rattle.book.specs.declared.Refusal.{Refusal}
 use Rattle.book.specs.declared.Refusal.TheVariants.{NoSuchAttack, HeadNotCalledFor, TooManyMembers, RowAlreadyHeld, NoRowFree, RowNotHeld}
-use Rattle.book.specs.declared.width.Members.{Members}
 use Rattle.book.specs.Offers.{and_then, said, row_at, Attempt, attempt, row_eq, entered_row, joined_row, join_of, attempt_called, offer, blank_member, written}
 use Rattle.book.specs.Attacks.{taken_up}
-use Rattle.book.specs.Widths.{twelve, fitted, fitted_join}
+use Rattle.book.specs.Widths.{fitted, fitted_join}
 use Rattle.book.specs.Written.{headed, fitted_row, fitted_if, fitted_both, new_and_free}
 use Rattle.book.proofs.Inserting.{ok_same, err_same, ok_not_err}
 
@@ -36,7 +35,7 @@ row_missing (r ∷ rs) (suc i) h = row_missing rs i (let l : length rs ≤ i = o
 pub headed_row : (h : Head) (line : Line) (ms : List Member) → headed h line (fitted ms) ≡ fitted_row (record { head = h; members = ms }) line
 headed_row h line ms = at (leb (length ms) 12)
   where
-    at : (b : Bool) → headed h line (cond b (Ok (twelve ms)) (Err TooManyMembers)) ≡ cond b (Ok (written (record { head = h; members = ms }) line)) (Err TooManyMembers)
+    at : (b : Bool) → headed h line (cond b (Ok ms) (Err TooManyMembers)) ≡ cond b (Ok (written (record { head = h; members = ms }) line)) (Err TooManyMembers)
     at true = refl
     at false = refl
 
@@ -57,7 +56,7 @@ headed_join i j line = headed_members i.head line i.members j
 
 -- the row of two numbers
 module _ (rows : List Row) (i j : ℕ) (d : Row) (line : Line) where
-  pub both_there : (made : Result Members Refusal) (out : Result Row Refusal) → i < length rows → j < length rows →
+  pub both_there : (made : Result (List Member) Refusal) (out : Result Row Refusal) → i < length rows → j < length rows →
       made ≡ fitted_join (joined (row_of (get_or rows i d)) (row_of (get_or rows j d))) → out ≡ headed (get_or rows i d).head line made →
       out ≡ fitted_both (row_at (said rows) i) (row_at (said rows) j) line
   both_there made out h k e f =

@@ -1,5 +1,6 @@
 -- The numbers of derivable rows: states below 8 and symbols below 16, where those of the rules and the starts are.
 use Rattle.std.proofs.Common.{◌≡◌, ℕ, ◌<◌, List, [], ◌∷◌, ◌++◌, Some, None, Option, sym, subst, inl, inr, ⊎_elim, arith}
+use Rattle.std.proofs.lemmas.Option.{none-some, same_Some}
 use Rattle.ordered.specs.Laws.{In}
 use Rattle.profile.specs.declared.Kind.{Kind}
 use Rattle.profile.specs.declared.Kind.TheVariants.{Open, Step, Close}
@@ -15,7 +16,6 @@ use Rattle.game.specs.Members.{AttackRow, top_under, top_of, below_top}
 use Rattle.game.specs.Game.{Side, by_station, by_manual, of_attacker, of_replier, Attack}
 use Rattle.game.specs.Rows.{head_on, pushed_pairs, leads_to, entered, with_pairs, Joins, CalledFor, Closed, Derivable}
 use Rattle.game.proofs.Sets.{in_front, in_last, from_map}
-use Rattle.game.proofs.Gathering.{some_same, some_is_not_none}
 use Rattle.game.proofs.Completing.{entered_from}
 use Rattle.game.proofs.Deciding.{derivable_least, join_members, lowered}
 
@@ -49,9 +49,9 @@ below_top_small (One p) s = tt
 below_top_small (Two u l) s = s.1
 
 top_under_small : (states : Pair) (ps : Pairs) (h : Head) → Below 8 states → SmallPairs ps → top_under states ps ≡ Some h → SmallHead h
-top_under_small states Zero h b s e = absurd (some_is_not_none h (sym e))
-top_under_small states (One p) h b s e = subst (λ (x : Head). SmallHead x) (some_same (record { states = states; symbols = p }) h e) (b, s)
-top_under_small states (Two u l) h b s e = subst (λ (x : Head). SmallHead x) (some_same (record { states = states; symbols = u }) h e) (b, s.0)
+top_under_small states Zero h b s e = absurd (none-some h e)
+top_under_small states (One p) h b s e = subst (λ (x : Head). SmallHead x) (same_Some (record { states = states; symbols = p }) h e) (b, s)
+top_under_small states (Two u l) h b s e = subst (λ (x : Head). SmallHead x) (same_Some (record { states = states; symbols = u }) h e) (b, s.0)
 
 pub top_small : (m : Member) (h : Head) → SmallMember m → top_of m ≡ Some h → SmallHead h
 top_small m h s e = top_under_small m.states m.symbols h s.0 s.1 e

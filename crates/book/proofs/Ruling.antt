@@ -1,5 +1,6 @@
 -- The answer to an offered line is the one that the rules give.
 use Rattle.std.proofs.Common.{◌≡◌, ℕ, zero, suc, ◌<◌, ◌≤◌, Bool, true, false, cond, ◌&&◌, ltb, leb, ◌⊎◌, List, [], ◌∷◌, length, get_or, Some, None, Ok, Err, Option, Result, sym, refl, ap, ◌∙◌, subst, inl, inr, ⊎_elim, suc-le-suc, zero-le, arith}
+use Rattle.std.proofs.lemmas.Option.{none-some}
 use Rattle.std.proofs.lemmas.Bool.{and_from, and_parts, both_ways, cases_Bool, ltb-true, lt-ltb, leb-true, leb-false, le-leb, cond-true}
 use Rattle.ordered.specs.Laws.{In}
 use Rattle.profile.specs.declared.Kind.{Kind}
@@ -12,7 +13,6 @@ use Rattle.game.specs.Systems.{ExactlyWhen}
 use Rattle.game.specs.Game.{Side, by_station, by_manual, side_of, of_attacker, playable, is_must}
 use Rattle.game.specs.Rows.{entered, CalledFor}
 use Rattle.game.specs.Computed.{any_of, called_for, joined}
-use Rattle.game.proofs.Gathering.{some_is_not_none}
 use Rattle.game.proofs.Testing.{called_for_means, called_for_shown, join_computed, computed_joins}
 use Rattle.book.specs.declared.Refusal.{Refusal}
 use Rattle.book.specs.declared.Refusal.TheVariants.{NoSuchAttack, HeadNotCalledFor, TooManyMembers, RowAlreadyHeld, NoRowFree, RowNotHeld, RowsDoNotJoin, RowsDoNotFit}
@@ -24,11 +24,11 @@ use Rattle.book.proofs.Tested.{err_is_not_ok}
 -- a number that no row has, and one that a row has
 no_such_row : (rows : List AttackRow) (i : ℕ) → row_at rows i ≡ None → length rows ≤ i
 no_such_row [] i e = zero-le
-no_such_row (r ∷ rs) zero e = absurd (some_is_not_none r e)
+no_such_row (r ∷ rs) zero e = absurd (none-some r (sym e))
 no_such_row (r ∷ rs) (suc i) e = suc-le-suc (no_such_row rs i e)
 
 such_a_row : (rows : List AttackRow) (i : ℕ) (row : AttackRow) → row_at rows i ≡ Some row → i < length rows
-such_a_row [] i row e = absurd (some_is_not_none row (sym e))
+such_a_row [] i row e = absurd (none-some row e)
 such_a_row (r ∷ rs) zero row e = suc-le-suc zero-le
 such_a_row (r ∷ rs) (suc i) row e = suc-le-suc (such_a_row rs i row e)
 

@@ -1,5 +1,6 @@
 -- What each answer to an offered line tells of the line and of the row that it makes.
 use Rattle.std.proofs.Common.{◌≡◌, ℕ, zero, suc, ◌<◌, ◌≤◌, Bool, true, false, cond, ◌&&◌, ltb, leb, ◌⊎◌, List, [], length, get_or, Some, None, Ok, Err, Option, Result, sym, refl, subst, inl, inr, arith}
+use Rattle.std.proofs.lemmas.Option.{none-some, same_Some}
 use Rattle.std.proofs.lemmas.Bool.{and_parts, and_from, eq-eqb, leb-true, leb-false, false≢true}
 use Rattle.ordered.specs.Laws.{In}
 use Rattle.profile.specs.declared.Kind.{Kind}
@@ -11,7 +12,6 @@ use Rattle.game.specs.Members.{AttackRow}
 use Rattle.game.specs.Game.{by_manual, is_must, Attack}
 use Rattle.game.specs.Rows.{head_on, entered, CalledFor, Derivable}
 use Rattle.game.specs.Computed.{any_of, called_for, joined}
-use Rattle.game.proofs.Gathering.{some_same, some_is_not_none}
 use Rattle.game.proofs.Testing.{called_for_means, computed_joins}
 use Rattle.game.proofs.Deciding.{derivable_closed}
 use Rattle.book.specs.declared.Refusal.{Refusal}
@@ -84,13 +84,13 @@ Attacks station manual a = Attack station manual a.side a.rule (head_on a.head [
 
 module _ (station manual : List (Option Rule)) (slot state symbol : ℕ) (a : Attempt) where
   station_attempt_attacks : (x : Option Rule) → get_or station slot None ≡ x → by_station_rule x state symbol ≡ Some a → Attacks station manual a
-  station_attempt_attacks None k e = absurd (some_is_not_none a (sym e))
+  station_attempt_attacks None k e = absurd (none-some a e)
   station_attempt_attacks (Some r) k e =
-      subst (λ (b : Attempt). Attacks station manual b) (some_same _ a e)
+      subst (λ (b : Attempt). Attacks station manual b) (same_Some _ a e)
       (slot_is_in station slot r k, refl, and_from _ _ (eq-eqb r.state r.state refl) (eq-eqb r.top r.top refl))
 
   manual_attempt_attacks : (x : Option Rule) → get_or manual slot None ≡ x → by_manual_rule x state symbol ≡ Some a → Attacks station manual a
-  manual_attempt_attacks None k e = absurd (some_is_not_none a (sym e))
+  manual_attempt_attacks None k e = absurd (none-some a e)
   manual_attempt_attacks (Some r) k e = at (is_must r.mode) refl e
     where
       at : (b : Bool) → is_must r.mode ≡ b → cond b (Some (record {
@@ -99,14 +99,14 @@ module _ (station manual : List (Option Rule)) (slot state symbol : ℕ) (a : At
         head = record { states = record { station = state; manual = r.state }; symbols = record { station = symbol; manual = r.top } };
       })) None ≡ Some a → Attacks station manual a
       at true m f =
-          subst (λ (b : Attempt). Attacks station manual b) (some_same _ a f)
+          subst (λ (b : Attempt). Attacks station manual b) (same_Some _ a f)
           (slot_is_in manual slot r k, m, and_from _ _ (eq-eqb r.state r.state refl) (eq-eqb r.top r.top refl))
-      at false m f = absurd (some_is_not_none a (sym f))
+      at false m f = absurd (none-some a f)
 
   pub attempt_attacks : (side : ℕ) → attempt station manual side slot state symbol ≡ Some a → Attack station manual a.side a.rule (head_on a.head [] [])
   attempt_attacks zero e = station_attempt_attacks (get_or station slot None) refl e
   attempt_attacks (suc zero) e = manual_attempt_attacks (get_or manual slot None) refl e
-  attempt_attacks (suc (suc n)) e = absurd (some_is_not_none a (sym e))
+  attempt_attacks (suc (suc n)) e = absurd (none-some a e)
 
 pub called_for_more : (start : Head) (S T : AttackRow → Type 0) (h : Head) → ((row : AttackRow) → S row → T row) → CalledFor start S h → CalledFor start T h
 called_for_more start S T h f (inl e) = inl e

@@ -1,10 +1,13 @@
 -- The sides of the code are the sides of the game.
-use Rattle.std.specs.Prelude.{ℕ, ◌<◌, Bool, false, ◌&&◌, List, Some, None, Option, ◌==◌}
+use Rattle.std.specs.Prelude.{ℕ, zero, suc, ◌<◌, Bool, false, ◌&&◌, List, Some, None, Ok, Err, Option, Result, ◌==◌}
 use Rattle.profile.specs.declared.Rule.{Rule}
+use Rattle.game.specs.declared.Pair.{Pair}
 use Rattle.game.specs.declared.Head.{Head}
 use Rattle.game.specs.declared.Line.{Line}
 use Rattle.game.specs.declared.Line.TheVariants.{Enter}
 use Rattle.game.specs.Game.{Side as Player, by_station, by_manual}
+use Rattle.book.specs.declared.Refusal.{Refusal}
+use Rattle.book.specs.declared.Refusal.TheVariants.{NoSuchAttack}
 use Rattle.book.specs.declared.reply.Side.{Side}
 use Rattle.book.specs.declared.reply.Side.TheVariants.{Station, Manual}
 
@@ -16,6 +19,17 @@ player Manual = by_manual
 abbrev pub side_number : Side → ℕ
 side_number Station = 0
 side_number Manual = 1
+
+-- the side that a number speaks of
+abbrev pub numbered_side : ℕ → Result Side Refusal
+numbered_side zero = Ok Station
+numbered_side (suc zero) = Ok Manual
+numbered_side (suc (suc n)) = Err NoSuchAttack
+
+-- an attacker's and a replier's number, the station's first
+abbrev pub paired : Side → ℕ → ℕ → Pair
+paired Station own other = record { station = own; manual = other }
+paired Manual own other = record { station = other; manual = own }
 
 -- the slots of a side
 abbrev pub slots_of : List (Option Rule) → List (Option Rule) → Side → List (Option Rule)

@@ -1,18 +1,18 @@
 -- Rows written with the line that made them, or a refusal.
 use Rattle.std.specs.Prelude.{Bool, cond, List, length, Some, None, Ok, Err, Option, Result, nat_le}
 use Rattle.game.specs.declared.Head.{Head}
+use Rattle.game.specs.declared.Member.{Member}
 use Rattle.game.specs.declared.Line.{Line}
 use Rattle.game.specs.declared.Row.{Row}
 use Rattle.game.specs.Members.{AttackRow, row_of}
 use Rattle.game.specs.Computed.{any_of, joined}
 use Rattle.book.specs.declared.Refusal.{Refusal}
 use Rattle.book.specs.declared.Refusal.TheVariants.{TooManyMembers, RowAlreadyHeld, NoRowFree, RowNotHeld, RowsDoNotJoin}
-use Rattle.book.specs.declared.width.Members.{Members}
 use Rattle.book.specs.Offers.{row_eq, written}
 
 -- a head before members
-abbrev pub headed : Head → Line → Result Members Refusal → Result Row Refusal
-headed head line (Ok ms) = Ok (record { head = head; members = ms.items; count = ms.count; line = line })
+abbrev pub headed : Head → Line → Result (List Member) Refusal → Result Row Refusal
+headed head line (Ok ms) = Ok (written (record { head = head; members = ms }) line)
 headed head line (Err why) = Err why
 
 -- a row, unless it has too many members

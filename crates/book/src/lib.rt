@@ -18,11 +18,11 @@ mod search;
 pub mod state;
 mod width;
 
-// Why a line was not taken, or a search left off.
+// Why a line was not taken, or a search left off. Refusals are numbered from 1.
 #[derive(Clone, Copy, PartialEq, Eq, Debug)]
 pub enum Refusal {
     // There is no such side, the slot is past the end or empty, or it holds a may rule of the manual.
-    NoSuchAttack,
+    NoSuchAttack = 1,
     // The head is neither that of the starts nor the top of a member of a held row.
     HeadNotCalledFor,
     // The row has over 12 members.
@@ -44,15 +44,6 @@ impl Refusal {
     pub fn number(self) -> u8
         ensures { result ≡ refusal_number self }
     {
-        match self {
-            Refusal::NoSuchAttack => 1,
-            Refusal::HeadNotCalledFor => 2,
-            Refusal::TooManyMembers => 3,
-            Refusal::RowAlreadyHeld => 4,
-            Refusal::NoRowFree => 5,
-            Refusal::RowNotHeld => 6,
-            Refusal::RowsDoNotJoin => 7,
-            Refusal::RowsDoNotFit => 8,
-        }
+        self as u8
     }
 }

@@ -14,7 +14,7 @@ use crate::attack::{Attack, attack_of};
 use crate::held::{is_among, is_called_for};
 use crate::joining::join_rows;
 use crate::reply::{Side, replies};
-use crate::width::Members;
+use crate::width::{Members, row_with};
 use game::{Head, Line, Row};
 use profile::Profile;
 
@@ -22,19 +22,7 @@ use profile::Profile;
 fn with_head(head: Head, line: Line, made: Result<Members, Refusal>) -> Result<Row, Refusal>
     ensures { result ≡ headed head line made }
 {
-    match made {
-        Ok(ms) => {
-            let members = ms.items;
-            let count = ms.count;
-            Ok(Row {
-                head,
-                members,
-                count,
-                line,
-            })
-        }
-        Err(why) => Err(why),
-    }
+    Ok(row_with(head, &made?, line))
 }
 
 // The members that the replies to an attack lead to.

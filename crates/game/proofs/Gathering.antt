@@ -1,6 +1,7 @@
 -- What an enter gathers from the replies, and what a join puts in, as sets of members.
-use Rattle.std.proofs.Common.{◌≡◌, ℕ, Bool, true, cond, ◌⊎◌, List, [], ◌∷◌, Some, None, Option, sym, refl, subst, inl, inr, ⊎_elim, arith}
+use Rattle.std.proofs.Common.{◌≡◌, Bool, true, cond, ◌⊎◌, List, [], ◌∷◌, Some, None, Option, sym, refl, subst, inl, inr, ⊎_elim}
 use Rattle.std.proofs.lemmas.Bool.{cond_both, both_ways}
+use Rattle.std.proofs.lemmas.Option.{none-some, same_Some}
 use Rattle.ordered.specs.Insert.{insert_into}
 use Rattle.ordered.specs.Laws.{In, Ascending}
 use Rattle.ordered.proofs.Orders.{ascending_inserted}
@@ -12,10 +13,10 @@ use Rattle.game.specs.Order.{member_antisymmetric, member_transitive, member_tot
 use Rattle.game.proofs.Sets.{old_or_new, still_in, now_in}
 
 pub some_same : {A : Type 0} (x y : A) → Some x ≡ Some y → x ≡ y
-some_same x y e = cc
+some_same x y e = same_Some x y e
 
 pub some_is_not_none : {A : Type 0} (x : A) → Some x ≡ None → ⊥
-some_is_not_none x e = let z : ◌≡◌ {A = ℕ} 0 1 = cc in omega arith
+some_is_not_none x e = none-some x (sym e)
 
 -- one member more
 keeps_ascending : (m : Member) (ms : List Member) → Ascending member_le ms → Ascending member_le (insert_into member_le m ms)
@@ -41,10 +42,10 @@ module _ (test : Rule → Bool) (make : Rule → Member) where
 
   pub gathered_has : (slots : List (Option Rule)) (ms : List Member) (s : Rule) → In (Some s) slots → test s ≡ true → In (make s) (gathered test make slots ms)
   gathered_has [] ms s k t = absurd k
-  gathered_has (None ∷ slots) ms s (inl e) t = absurd (some_is_not_none s e)
+  gathered_has (None ∷ slots) ms s (inl e) t = absurd (none-some s (sym e))
   gathered_has (None ∷ slots) ms s (inr k) t = gathered_has slots ms s k t
   gathered_has (Some u ∷ slots) ms s (inl e) t =
-      let d : u ≡ s = sym (some_same s u e) in
+      let d : u ≡ s = sym (same_Some s u e) in
       gathered_keeps slots (step u ms) (make s)
       (subst (λ (v : Rule). In (make s) (step v ms)) (sym d)
       (cond_both (test s) (insert_into member_le (make s) ms) ms (λ l. In (make s) l)

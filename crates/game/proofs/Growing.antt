@@ -1,18 +1,20 @@
 -- Every game has a closed list of derivable rows: rows that are missing are added until none is, which ends since the
 -- derivable rows are finitely many.
-use Rattle.std.proofs.Common.{◌≡◌, ℕ, zero, suc, ◌+◌, ◌≤◌, Bool, true, false, cond, ◌&&◌, eqb, ◌⊎◌, List, [], ◌∷◌, ◌++◌, length, Some, None, Option, sym, refl, ap, ◌∙◌, subst, inl, inr, ⊎_elim, arith}
-use Rattle.std.proofs.lemmas.Bool.{and_parts, and_from, eqb-true, eq-eqb, cases_Bool, both_ways, false≢true, cond_both, cond-true}
+use Rattle.std.proofs.Common.{◌≡◌, ℕ, zero, suc, ◌+◌, ◌≤◌, Bool, true, cond, ◌&&◌, ◌⊎◌, List, [], ◌∷◌, ◌++◌, length, Some, None, Option, sym, refl, ap, ◌∙◌, subst, inl, inr, ⊎_elim, arith}
+use Rattle.std.proofs.lemmas.Bool.{and_parts, and_from, cases_Bool, both_ways, cond_both, cond-true}
+use Rattle.std.specs.Cmp.Lexicographic.{pointwise}
+use Rattle.std.proofs.lemmas.Slice.Eq.{slice_eq-Decides}
 use Rattle.ordered.specs.Laws.{In}
 use Rattle.profile.specs.declared.Kind.{Kind}
 use Rattle.profile.specs.declared.Rule.{Rule}
 use Rattle.game.specs.declared.Head.{Head}
 use Rattle.game.specs.declared.Member.{Member}
-use Rattle.game.specs.Members.{AttackRow, top_of, member_numbers}
+use Rattle.game.specs.Members.{AttackRow, top_of}
 use Rattle.game.specs.Game.{Side, by_station, by_manual, of_attacker, playable, applies, Attack, AttackerWins, Position, Defends}
 use Rattle.game.specs.Rows.{head_on, starts, entered, CalledFor, Closed, Derivable, join}
 use Rattle.game.specs.Computed.{any_of, head_eq, joined}
 use Rattle.game.specs.Theorems.{Refines, Saturated, Different}
-use Rattle.game.specs.Order.{numbers_tell_the_member}
+use Rattle.game.specs.Sameness.{same_member, same_member_decides}
 use Rattle.game.proofs.Testing.{any_has, any_holds, head_eq_means, head_eq_shown, join_computed, computed_joins}
 use Rattle.game.proofs.Defence.{never_wins}
 use Rattle.game.proofs.Deciding.{derivable_closed, Refuted, NotRefuted, decide}
@@ -47,43 +49,19 @@ of_listed None x k = absurd k
 of_listed {A} (Some y) x (inl e) = ap (λ (z : A). Some z) (sym e)
 of_listed (Some y) x (inr k) = absurd k
 
--- the tests of equality
-abbrev list_eq : {A : Type 0} → (A → A → Bool) → List A → List A → Bool
-list_eq f [] [] = true
-list_eq f [] (y ∷ ys) = false
-list_eq f (x ∷ xs) [] = false
-list_eq f (x ∷ xs) (y ∷ ys) = f x y && list_eq f xs ys
-
-list_eq_means : {A : Type 0} (f : A → A → Bool) → ((x y : A) → f x y ≡ true → x ≡ y) → (xs ys : List A) → list_eq f xs ys ≡ true → xs ≡ ys
-list_eq_means f s [] [] e = refl
-list_eq_means f s [] (y ∷ ys) e = absurd (false≢true e)
-list_eq_means f s (x ∷ xs) [] e = absurd (false≢true e)
-list_eq_means f s (x ∷ xs) (y ∷ ys) e =
-    let (p, q) = and_parts (f x y) (list_eq f xs ys) e in
-    let t : xs ≡ ys = list_eq_means f s xs ys q in
-    λ i. s x y p i ∷ t i
-
-list_eq_shown : {A : Type 0} (f : A → A → Bool) → ((x : A) → f x x ≡ true) → (xs : List A) → list_eq f xs xs ≡ true
-list_eq_shown f s [] = refl
-list_eq_shown f s (x ∷ xs) = and_from (f x x) (list_eq f xs xs) (s x) (list_eq_shown f s xs)
-
-abbrev member_eq : Member → Member → Bool
-member_eq m n = list_eq eqb (member_numbers m) (member_numbers n)
-
+-- the test for equal rows
 abbrev row_eq : AttackRow → AttackRow → Bool
-row_eq r s = head_eq r.head s.head && list_eq member_eq r.members s.members
+row_eq r s = head_eq r.head s.head && pointwise same_member r.members s.members
 
 row_eq_means : (r s : AttackRow) → row_eq r s ≡ true → r ≡ s
 row_eq_means r s e =
-    let (p, q) = and_parts (head_eq r.head s.head) (list_eq member_eq r.members s.members) e in
-    let ms : r.members ≡ s.members =
-    list_eq_means member_eq (λ m n h. numbers_tell_the_member m n (list_eq_means eqb eqb-true (member_numbers m) (member_numbers n) h)) r.members s.members q in
+    let (p, q) = and_parts (head_eq r.head s.head) (pointwise same_member r.members s.members) e in
+    let ms : r.members ≡ s.members = (slice_eq-Decides same_member_decides r.members s.members _ refl).0 q in
     λ i. record { head = head_eq_means r.head s.head p i; members = ms i }
 
 row_eq_shown : (r : AttackRow) → row_eq r r ≡ true
 row_eq_shown r =
-    and_from _ _ (head_eq_shown r.head r.head refl)
-    (list_eq_shown member_eq (λ m. list_eq_shown eqb (λ x. eq-eqb x x refl) (member_numbers m)) r.members)
+    and_from _ _ (head_eq_shown r.head r.head refl) ((slice_eq-Decides same_member_decides r.members r.members _ refl).1 refl)
 
 -- a row of a list that another lacks, if there is one
 lacking : (wanted rows : List AttackRow) → ((row : AttackRow) → In row wanted → In row rows) ⊎ ((row : AttackRow) × In row wanted × (In row rows → ⊥))

@@ -1,5 +1,6 @@
 -- The worked examples, by computing and by the few cases there are.
 use Rattle.std.proofs.Common.{◌≡◌, ℕ, true, ◌⊎◌, List, [], ◌∷◌, Some, None, Option, sym, refl, ap, ◌∙◌, subst, inl, inr, ⊎_elim, arith}
+use Rattle.std.proofs.lemmas.Option.{none-some, same_Some}
 use Rattle.std.proofs.lemmas.Bool.{false≢true}
 use Rattle.ordered.specs.Laws.{In}
 use Rattle.profile.specs.declared.Mode.TheVariants.{May, Must}
@@ -10,17 +11,16 @@ use Rattle.game.specs.Systems.{Configuration}
 use Rattle.game.specs.Game.{Position, Side, by_station, by_manual, playable, applies, after, outcome, Attack, Reply, Wins}
 use Rattle.game.specs.Rows.{head_on, starts, Derivable, enter_start, enter_top, join, refuting}
 use Rattle.game.specs.Examples.{kinds, at, head, member, pair, row, moving, staying, stay, origin, opening, closing, both, opening_only, KindsTellWhatIsPushed, ModesTellWhoMayPlay, HeadsHaveTheStationFirst, NothingComesOfNothing, JoinsKeepTheLowerPair, MembersAreInThisOrder, HeadsAreCalledFor, RoundsAreCounted}
-use Rattle.game.proofs.Gathering.{some_same, some_is_not_none}
 use Rattle.game.proofs.Testing.{computed_joins}
 use Rattle.game.proofs.Growing.{defended_refines}
 
 -- the only slot, and an empty one
 only : (r s : Rule) → In (Some r) (Some s ∷ []) → r ≡ s
-only r s (inl e) = some_same r s e
+only r s (inl e) = same_Some r s e
 only r s (inr k) = absurd k
 
 not_in_empty : (r : Rule) → In (Some r) (None ∷ []) → ⊥
-not_in_empty r (inl e) = some_is_not_none r e
+not_in_empty r (inl e) = none-some r (sym e)
 not_in_empty r (inr k) = k
 
 pub pushes : KindsTellWhatIsPushed
@@ -168,8 +168,8 @@ no_reply s pos e t =
     (subst (λ (x : Rule). applies x pos.manual ≡ true) (only s opening t.0) t.3))
 
 one_of_both : (r : Rule) → In (Some r) both → (r ≡ opening) ⊎ (r ≡ closing)
-one_of_both r (inl e) = inl (some_same r opening e)
-one_of_both r (inr (inl e)) = inr (some_same r closing e)
+one_of_both r (inl e) = inl (same_Some r opening e)
+one_of_both r (inr (inl e)) = inr (same_Some r closing e)
 one_of_both r (inr (inr k)) = absurd k
 
 not_in_one : Wins kinds both opening_only 1 (starts origin) → ⊥

@@ -1,5 +1,6 @@
 -- Every derivable row means what a row means.
 use Rattle.std.proofs.Common.{◌≡◌, ℕ, ◌+◌, max, true, List, [], ◌∷◌, ◌++◌, map, Some, None, Option, sym, refl, ap, ◌∙◌, subst, inl, inr, ⊎_elim, add-one, arith}
+use Rattle.std.proofs.lemmas.Option.{none-some, same_Some}
 use Rattle.std.proofs.lemmas.Bool.{and_from, and_parts, eq-eqb, eqb-true}
 use Rattle.ordered.specs.Laws.{In}
 use Rattle.profile.specs.declared.Kind.{Kind}
@@ -15,7 +16,7 @@ use Rattle.game.specs.Systems.{pushed}
 use Rattle.game.specs.Game.{Position, Side, by_station, by_manual, of_replier, outcome, Attack, Reply, Wins, AttackerWins}
 use Rattle.game.specs.Rows.{station_on, manual_on, member_on, head_on, starts, pushed_pairs, leads_to, answers, entered, with_pairs, put_in, Joins, Derivable, enter_start, enter_top, join, rounds, MeansWithin, Means, refuting}
 use Rattle.game.proofs.Sets.{in_map, front_or_last}
-use Rattle.game.proofs.Gathering.{some_same, some_is_not_none, gathered_has, put_has, put_keeps}
+use Rattle.game.proofs.Gathering.{gathered_has, put_has, put_keeps}
 use Rattle.game.proofs.Defence.{wins_more}
 
 station_pushes : (k : Option Kind) (r s : Rule) (a : List ℕ) → pushed k r ++ a ≡ station_on (pushed_pairs k r s) a
@@ -76,11 +77,11 @@ module _ (station manual : List (Option Rule)) where
 -- a member whose top is h is that head, on what lies below the upper pair
 under_top : (states : Pair) (pairs : Pairs) (h : Head) (a b : List ℕ) → top_under states pairs ≡ Some h →
     member_on (record { states = states; symbols = pairs }) a b ≡ head_on h (station_on (below_top pairs) a) (manual_on (below_top pairs) b)
-under_top states Zero h a b e = absurd (some_is_not_none h (sym e))
+under_top states Zero h a b e = absurd (none-some h e)
 under_top states (One p) h a b e =
-    ap (λ (x : Head). head_on x a b) (some_same (record { states = states; symbols = p }) h e)
+    ap (λ (x : Head). head_on x a b) (same_Some (record { states = states; symbols = p }) h e)
 under_top states (Two u l) h a b e =
-    ap (λ (x : Head). head_on x (l.station ∷ a) (l.manual ∷ b)) (some_same (record { states = states; symbols = u }) h e)
+    ap (λ (x : Head). head_on x (l.station ∷ a) (l.manual ∷ b)) (same_Some (record { states = states; symbols = u }) h e)
 
 pub top_is_head : (m : Member) (h : Head) (a b : List ℕ) → top_of m ≡ Some h →
     member_on m a b ≡ head_on h (station_on (below_top m.symbols) a) (manual_on (below_top m.symbols) b)

@@ -1,16 +1,16 @@
 -- The computed tests and the computed join say what the definitions say.
-use Rattle.std.proofs.Common.{◌≡◌, Bool, true, false, ◌&&◌, eqb, List, [], ◌∷◌, ◌++◌, map, Some, None, Option, sym, refl, ap, ◌∙◌, subst, inl, inr, ⊎_elim}
-use Rattle.std.proofs.lemmas.Bool.{and_parts, and_from, and_cases, or_cases, or_parts, or_left, or_right, eqb-true, eq-eqb, false≢true, cond-true, cond_both}
+use Rattle.std.proofs.Common.{◌≡◌, Bool, true, false, ◌&&◌, List, [], ◌∷◌, ◌++◌, map, Some, None, Option, sym, refl, ap, ◌∙◌, subst, inl, inr, ⊎_elim}
+use Rattle.std.proofs.lemmas.Option.{none-some, same_Some}
+use Rattle.std.proofs.lemmas.Bool.{and_parts, and_from, and_cases, or_cases, or_parts, or_left, or_right, false≢true, cond-true, cond_both}
 use Rattle.ordered.specs.Laws.{In}
-use Rattle.game.specs.declared.Pair.{Pair}
 use Rattle.game.specs.declared.Head.{Head}
 use Rattle.game.specs.declared.Pairs.{Pairs}
 use Rattle.game.specs.declared.Pairs.TheVariants.{Zero, One, Two}
 use Rattle.game.specs.declared.Member.{Member}
 use Rattle.game.specs.Members.{AttackRow, top_of, below_top}
 use Rattle.game.specs.Rows.{Pairless, with_pairs, put_in, Joins, CalledFor}
-use Rattle.game.specs.Computed.{any_of, all_of, pair_eq, head_eq, is_top, tops_row, called_for, is_zero, pairless, front_of, last_of, joined_last, joined_members, joined}
-use Rattle.game.proofs.Gathering.{some_same, some_is_not_none}
+use Rattle.game.specs.Sameness.{head_eq_decides}
+use Rattle.game.specs.Computed.{any_of, all_of, head_eq, is_top, tops_row, called_for, is_zero, pairless, front_of, last_of, joined_last, joined_members, joined}
 
 module _ {A : Type 0} (test : A → Bool) where
   pub any_has : (xs : List A) → any_of test xs ≡ true → (x : A) × In x xs × (test x ≡ true)
@@ -42,21 +42,11 @@ module _ {A : Type 0} (test : A → Bool) where
   all_fails (y ∷ ys) e =
       ⊎_elim (λ h. (y, inl refl, h)) (λ h. let r = all_fails ys h in (r.0, inr r.1, r.2)) (and_cases (test y) (all_of test ys) e)
 
-pair_eq_means : (p q : Pair) → pair_eq p q ≡ true → p ≡ q
-pair_eq_means p q e =
-    let a = and_parts (eqb p.station q.station) (eqb p.manual q.manual) e in
-    λ i. record { station = eqb-true p.station q.station a.0 i; manual = eqb-true p.manual q.manual a.1 i }
-
-pair_eq_shown : (p : Pair) → pair_eq p p ≡ true
-pair_eq_shown p = and_from _ _ (eq-eqb p.station p.station refl) (eq-eqb p.manual p.manual refl)
-
 pub head_eq_means : (h k : Head) → head_eq h k ≡ true → h ≡ k
-head_eq_means h k e =
-    let a = and_parts (pair_eq h.states k.states) (pair_eq h.symbols k.symbols) e in
-    λ i. record { states = pair_eq_means h.states k.states a.0 i; symbols = pair_eq_means h.symbols k.symbols a.1 i }
+head_eq_means h k = (head_eq_decides h k).0
 
 pub head_eq_shown : (h k : Head) → h ≡ k → head_eq h k ≡ true
-head_eq_shown h k e = subst (λ (x : Head). head_eq h x ≡ true) e (and_from _ _ (pair_eq_shown h.states) (pair_eq_shown h.symbols))
+head_eq_shown h k = (head_eq_decides h k).1
 
 is_top_means : (h : Head) (t : Option Head) → is_top h t ≡ true → t ≡ Some h
 is_top_means h None e = absurd (false≢true e)
@@ -104,7 +94,7 @@ last_put : (x : Member) (xs : List Member) (m : Member) → last_of x (xs ++ m �
 last_put x [] m = refl
 last_put x (y ∷ ys) m = last_put y ys m
 
-members_put : (h : Head) (front : List Member) (last : Member) (j : AttackRow) → joined_members h (front ++ last ∷ []) j ≡ joined_last h front last j
+pub members_put : (h : Head) (front : List Member) (last : Member) (j : AttackRow) → joined_members h (front ++ last ∷ []) j ≡ joined_last h front last j
 members_put h [] last j = refl
 members_put h (x ∷ xs) last j = λ i. joined_last h (front_put x xs last i) (last_put x xs last i) j
 
@@ -129,12 +119,12 @@ by_last i j k front last e =
       members = e;
       top = is_top_means j.head (top_of last) p.0;
       pairless = pairless_means j.members p.1;
-      gives = sym (some_same (made i.head front last j) k h);
+      gives = sym (same_Some (made i.head front last j) k h);
     })
-    (λ _ h. absurd (some_is_not_none k (sym h)))
+    (λ _ h. absurd (none-some k h))
 
 by_members : (i j k : AttackRow) (ms : List Member) → i.members ≡ ms → joined_members i.head ms j ≡ Some k → Joins i j k
-by_members i j k [] e h = absurd (some_is_not_none k (sym h))
+by_members i j k [] e h = absurd (none-some k h)
 by_members i j k (m ∷ ms) e h = by_last i j k (front_of m ms) (last_of m ms) (e ∙ whole m ms) h
 
 pub computed_joins : (i j k : AttackRow) → joined i j ≡ Some k → Joins i j k

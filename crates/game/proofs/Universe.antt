@@ -1,5 +1,6 @@
 -- There are only finitely many derivable rows: all lie in one list, made of the rules' next states and symbols.
 use Rattle.std.proofs.Common.{◌≡◌, ℕ, Bool, true, false, ◌⊎◌, List, [], ◌∷◌, ◌++◌, map, Some, None, Option, sym, refl, ap, subst, inl, inr, ⊎_elim}
+use Rattle.std.proofs.lemmas.Option.{none-some, same_Some}
 use Rattle.std.proofs.lemmas.Bool.{both_ways, cases_Bool}
 use Rattle.ordered.specs.Laws.{In, Before, Ascending}
 use Rattle.profile.specs.declared.Kind.{Kind}
@@ -15,7 +16,7 @@ use Rattle.game.specs.Game.{Side, by_station, by_manual, of_attacker, of_replier
 use Rattle.game.specs.Rows.{head_on, pushed_pairs, leads_to, entered, with_pairs, put_in, Joins, Derivable, enter_start, enter_top, join}
 use Rattle.game.specs.Order.{member_transitive}
 use Rattle.game.proofs.Sets.{in_map, from_map, in_front, in_last}
-use Rattle.game.proofs.Gathering.{some_same, some_is_not_none, put_ascending, put_has}
+use Rattle.game.proofs.Gathering.{put_ascending, put_has}
 use Rattle.game.proofs.Completing.{entered_from}
 use Rattle.game.proofs.Deciding.{join_members, derivable_ascends}
 
@@ -99,9 +100,9 @@ numbers_of f (Some r ∷ slots) = f r ∷ numbers_of f slots
 
 in_numbers : (f : Rule → ℕ) (slots : List (Option Rule)) (r : Rule) → In (Some r) slots → In (f r) (numbers_of f slots)
 in_numbers f [] r k = absurd k
-in_numbers f (None ∷ slots) r (inl e) = absurd (some_is_not_none r e)
+in_numbers f (None ∷ slots) r (inl e) = absurd (none-some r (sym e))
 in_numbers f (None ∷ slots) r (inr k) = in_numbers f slots r k
-in_numbers f (Some s ∷ slots) r (inl e) = inl (ap f (some_same r s e))
+in_numbers f (Some s ∷ slots) r (inl e) = inl (ap f (same_Some r s e))
 in_numbers f (Some s ∷ slots) r (inr k) = inr (in_numbers f slots r k)
 
 abbrev symbols_of : List (Option Rule) → List ℕ
@@ -188,12 +189,12 @@ module _ (station manual : List (Option Rule)) where
   universe start = cross (λ (h : Head) (ms : List Member). record { head = h; members = ms }) (all_heads start) (parts all_members)
 
   top_in : (start : Head) (states : Pair) (ps : Pairs) (h : Head) → In states all_states → Pushable ps → top_under states ps ≡ Some h → In h (all_heads start)
-  top_in start states Zero h k l e = absurd (some_is_not_none h (sym e))
+  top_in start states Zero h k l e = absurd (none-some h e)
   top_in start states (One p) h k l e =
-      subst (λ (x : Head). In x (all_heads start)) (some_same (record { states = states; symbols = p }) h e)
+      subst (λ (x : Head). In x (all_heads start)) (same_Some (record { states = states; symbols = p }) h e)
       (inr (in_cross (λ (s x : Pair). record { states = s; symbols = x }) all_states all_symbols states p k l))
   top_in start states (Two u d) h k l e =
-      subst (λ (x : Head). In x (all_heads start)) (some_same (record { states = states; symbols = u }) h e)
+      subst (λ (x : Head). In x (all_heads start)) (same_Some (record { states = states; symbols = u }) h e)
       (inr (in_cross (λ (s x : Pair). record { states = s; symbols = x }) all_states all_symbols states u k l.0))
 
 module _ (kinds : ℕ → Option Kind) (station manual : List (Option Rule)) (start : Head) where

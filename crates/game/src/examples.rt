@@ -2,57 +2,41 @@
 ghost use Rattle.game.specs.Examples.{KindsTellWhatIsPushed, ModesTellWhoMayPlay, HeadsHaveTheStationFirst, NothingComesOfNothing, JoinsKeepTheLowerPair, MembersAreInThisOrder, HeadsAreCalledFor, RoundsAreCounted};
 
 // By the kind of its event a rule puts its upper symbol above its lower one, its upper symbol, or nothing.
-pub fn kinds_tell_what_is_pushed() -> u8
+pub fn kinds_tell_what_is_pushed()
     ensures { KindsTellWhatIsPushed }
-{
-    0
-}
+{}
 
 // What may rules and must rules count for, in attack and in reply.
-pub fn modes_tell_who_may_play() -> u8
+pub fn modes_tell_who_may_play()
     ensures { ModesTellWhoMayPlay }
-{
-    0
-}
+{}
 
 // Whoever attacks, heads and members have the station first.
-pub fn heads_have_the_station_first() -> u8
+pub fn heads_have_the_station_first()
     ensures { HeadsHaveTheStationFirst }
-{
-    0
-}
+{}
 
 // Empty slots and empty stacks give nothing.
-pub fn nothing_comes_of_nothing() -> u8
+pub fn nothing_comes_of_nothing()
     ensures { NothingComesOfNothing }
-{
-    0
-}
+{}
 
 // A join replaces the last member, at its upper pair, and keeps its lower pair.
-pub fn joins_keep_the_lower_pair() -> u8
+pub fn joins_keep_the_lower_pair()
     ensures { JoinsKeepTheLowerPair }
-{
-    0
-}
+{}
 
 // The order of members.
-pub fn members_are_in_this_order() -> u8
+pub fn members_are_in_this_order()
     ensures { MembersAreInThisOrder }
-{
-    0
-}
+{}
 
 // Which heads are called for, and which are not.
-pub fn heads_are_called_for() -> u8
+pub fn heads_are_called_for()
     ensures { HeadsAreCalledFor }
-{
-    0
-}
+{}
 
 // The attacker wins where there is no reply, and each round counts.
-pub fn rounds_are_counted() -> u8
+pub fn rounds_are_counted()
     ensures { RoundsAreCounted }
-{
-    0
-}
+{}

@@ -4,8 +4,6 @@
 
 ghost use Rattle.std.specs.Prelude.{◌≡◌, min, Decides};
 ghost use Rattle.game.specs.Members.{top_of, below_top, member_numbers, member_le, members_of, row_of, blank_row};
-ghost use Rattle.game.specs.Computed.{head_eq};
-ghost use Rattle.game.specs.Sameness.{head_eq_laws, same_member, same_member_laws};
 ghost use Rattle.game.specs.Order.{member_reflexive, member_antisymmetric, member_transitive, member_total};
 
 use ordered::Keyed;
@@ -17,35 +15,23 @@ pub mod row_set;
 pub mod theorems;
 
 // A number of the station's beside one of the manual's: two states, or two stack symbols.
-#[derive(Clone, Copy, PartialEq, Eq, Debug)]
+#[derive(Clone, Copy, Default, PartialEq, Eq, Debug)]
 pub struct Pair {
     pub station: u8,
     pub manual: u8,
 }
 
 // The states of both sides and the symbols on top of both stacks, whatever lies below them.
-#[derive(Clone, Copy, Debug)]
+#[derive(Clone, Copy, Default, PartialEq, Eq, Debug)]
 pub struct Head {
     pub states: Pair,
     pub symbols: Pair,
 }
 
-impl PartialEq for Head {
-    ghost eq = { head_eq };
-
-    ghost laws = { head_eq_laws };
-
-    fn eq(&self, other: &Head) -> bool
-        ensures computes { result ≡ head_eq self.now other.now }
-        ensures decides { Decides result (self.now ≡ other.now) }
-    {
-        self.states == other.states && self.symbols == other.symbols
-    }
-}
-
 // The symbols that lie above the stacks below: none, one pair, or an upper pair above a lower one.
-#[derive(Clone, Copy, PartialEq, Eq, Debug)]
+#[derive(Clone, Copy, Default, PartialEq, Eq, Debug)]
 pub enum Pairs {
+    #[default]
     Zero,
     One(Pair),
     Two(Pair, Pair),
@@ -57,31 +43,17 @@ impl Pairs {
         ensures { result ≡ below_top self }
     {
         match self {
-            Pairs::Zero => Pairs::Zero,
-            Pairs::One(_) => Pairs::Zero,
+            Pairs::Zero | Pairs::One(_) => Pairs::Zero,
             Pairs::Two(_, lower) => Pairs::One(lower),
         }
     }
 }
 
 // One position that the replies to an attack lead to: the states of both sides, and the pairs above the stacks below.
-#[derive(Clone, Copy, Debug)]
+#[derive(Clone, Copy, Default, PartialEq, Eq, Debug)]
 pub struct Member {
     pub states: Pair,
     pub symbols: Pairs,
-}
-
-impl PartialEq for Member {
-    ghost eq = { same_member };
-
-    ghost laws = { same_member_laws };
-
-    fn eq(&self, other: &Member) -> bool
-        ensures computes { result ≡ same_member self.now other.now }
-        ensures decides { Decides result (self.now ≡ other.now) }
-    {
-        self.symbols == other.symbols && self.states == other.states
-    }
 }
 
 impl Member {
@@ -92,12 +64,12 @@ impl Member {
         let states = self.states;
         match self.symbols {
             Pairs::Zero => None,
-            Pairs::One(symbols) => Some(Head { states, symbols }),
-            Pairs::Two(symbols, _) => Some(Head { states, symbols }),
+            Pairs::One(symbols) | Pairs::Two(symbols, _) => Some(Head { states, symbols }),
         }
     }
 
     // What members are ordered by: the number of pairs, the states, the upper pair, the lower pair.
+    // By hand: a derived order would have the states before the number of pairs.
     pub fn numbers(&self) -> [u8; 7]
         ensures { result ≡ member_numbers self.now }
     {
@@ -128,7 +100,7 @@ impl Keyed for Member {
     ghost total = { member_total };
 
     fn at_most(&self, other: &Member) -> bool {
-        ordered::lex_at_most(&self.numbers(), &other.numbers())
+        self.numbers().as_slice() <= other.numbers().as_slice()
     }
 }
 
@@ -150,6 +122,7 @@ pub enum Line {
 
 // A head, the members in the first `count` of twelve places, and the line that made the row.
 // Any count may stand in a row that others wrote: one over 12 is read as 12.
+// Places with a count beside them: rows lie in memory that the caller lends, and others may write them.
 #[derive(Clone, Copy, Debug)]
 pub struct Row {
     pub head: Head,
@@ -163,20 +136,9 @@ impl Row {
     pub fn blank() -> Row
         ensures { result ≡ blank_row }
     {
-        let zeros = Pair {
-            station: 0,
-            manual: 0,
-        };
-        let place = Member {
-            states: zeros,
-            symbols: Pairs::Zero,
-        };
         Row {
-            head: Head {
-                states: zeros,
-                symbols: zeros,
-            },
-            members: [place; 12],
+            head: Head::default(),
+            members: [Member::default(); 12],
             count: 0,
             line: Line::Enter {
                 side: 0,
@@ -198,10 +160,11 @@ impl Row {
     pub fn members(&self) -> &[Member]
         ensures { result.now ≡ members_of self.now }
     {
-        &self.members[0..self.len()]
+        &self.members[..self.len()]
     }
 
     // Whether both hold the same row: head and members are the same, whatever lines made them.
+    // By hand: a derived `==` would tell rows apart by their lines and by what lies past their members.
     pub fn same_row(&self, other: &Row) -> bool
         ensures { Decides result (row_of self.now ≡ row_of other.now) }
     {

@@ -11,25 +11,19 @@ pub trait Relation {
 
 // That every attack from where a relation holds has a reply to where it holds is the same as that the relation is a
 // refinement between the two induced systems.
-pub fn defending_is_refining<R: Relation>() -> u8
+pub fn defending_is_refining<R: Relation>()
     ensures { DefendingIsRefining R.Relation.holds }
-{
-    0
-}
+{}
 
 // Where a refinement holds, the attacker does not win.
-pub fn refinement_keeps_attacker_from_winning<R: Relation>() -> u8
+pub fn refinement_keeps_attacker_from_winning<R: Relation>()
     ensures { RefinementKeepsAttackerFromWinning R.Relation.holds }
-{
-    0
-}
+{}
 
 // A refinement that holds the starts gives a modal refinement relation, yes or no at every position, that holds them.
-pub fn any_refinement_gives_a_yes_or_no_one<R: Relation>() -> u8
+pub fn any_refinement_gives_a_yes_or_no_one<R: Relation>()
     ensures { AnyRefinementGivesAYesOrNoOne R.Relation.holds }
-{
-    0
-}
+{}
 
 // The relation that holds where station and manual are in the same configuration.
 #[derive(Clone, Copy, Debug)]
@@ -40,7 +34,7 @@ impl Relation for Same {
 }
 
 // Every list of optional rules refines itself, by that relation.
-pub fn every_profile_refines_itself() -> u8
+pub fn every_profile_refines_itself()
     ensures { EveryProfileRefinesItself }
 {
     any_refinement_gives_a_yes_or_no_one::<Same>()

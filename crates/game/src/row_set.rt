@@ -9,11 +9,9 @@ pub trait RowSet {
 }
 
 // A set that is closed under enter on the heads that it calls for and under join has every derivable row.
-pub fn derivable_rows_are_the_least_closed_set<S: RowSet>() -> u8
+pub fn derivable_rows_are_the_least_closed_set<S: RowSet>()
     ensures { DerivableRowsAreTheLeastClosedSet S.RowSet.has }
-{
-    0
-}
+{}
 
 // The rows whose members are strictly ascending.
 #[derive(Clone, Copy, Debug)]
@@ -24,7 +22,7 @@ impl RowSet for Ascends {
 }
 
 // The members of every derivable row are strictly ascending, since that set is closed.
-pub fn derivable_rows_ascend() -> u8
+pub fn derivable_rows_ascend()
     ensures { DerivableRowsAscend }
 {
     derivable_rows_are_the_least_closed_set::<Ascends>()

@@ -1,5 +1,5 @@
 // A list of at most so many elements that asks for no memory.
-ghost use Rattle.std.specs.Prelude.{◌≡◌, ◌≤◌, List, [], length, take};
+ghost use Rattle.std.specs.Prelude.{◌≡◌, ◌≤◌, if◌then◌else◌, List, [], length, take, Some, None, nat_le};
 ghost use Rattle.ordered.specs.Insert.{held_answer, held_after};
 ghost use Rattle.ordered.specs.Laws.{by_key, LawfulHolding};
 
@@ -32,6 +32,19 @@ impl<T: Copy, const N: usize> Held<T, N> {
         }
     }
 
+    // The elements of a slice in their order, if there is room for them; `blank` stands in the places past them.
+    pub fn copied(blank: T, items: &[T]) -> Option<Held<T, N>>
+        ensures { result ≡ (if nat_le (length items.now) N then Some items.now else None) }
+    {
+        let count = items.len();
+        if count > N {
+            return None;
+        }
+        let mut places = [blank; N];
+        places[..count].copy_from_slice(items);
+        Some(Held { places, count })
+    }
+
     // What is held.
     pub fn as_slice(&self) -> &[T]
         ensures value { result.now ≡ self.now }
@@ -48,6 +61,7 @@ impl<T: Copy, const N: usize> Held<T, N> {
         ensures answer { result ≡ held_answer (by_key T.Keyed.key T.Keyed.le) x N self.old }
         ensures after { self.new ≡ held_after (by_key T.Keyed.key T.Keyed.le) x self.old result }
         ensures lawful { LawfulHolding T.Keyed.key T.Keyed.le x N self.old self.new result }
+        ensures few { length self.new ≤ N }
     {
         let at = crate::insert(&mut self.places, self.count, x)?;
         self.count += 1;

@@ -1,5 +1,6 @@
-use Rattle.book.proofs.Scanning.{held_part}
+use Rattle.std.proofs.Common.{min, ap, ◌∙◌}
+use Rattle.book.proofs.Scanning.{held_first}
 use Rattle.book.proofs.held.held_of.Goals as goal
 
 pub returns : goal.returns
-returns c = held_part c.args.rows.now c.args.held c.min-usable.result c.min.result c.min-usable.ensures c.min.ensures
+returns c = held_first c.args.rows.now c.args.held c.min.result (c.min.ensures ∙ ap (min c.args.held) c.usable_rows.ensures)

@@ -1,26 +1,16 @@
-use Rattle.std.proofs.Common.{List, refl}
+use Rattle.std.proofs.Common.{◌∙◌, rules, tests}
+use Rattle.std.proofs.lemmas.Iterator.{YieldsList-from_slice}
+use Rattle.std.proofs.lemmas.Iterator.Search.{any_from_yields_List}
+use Rattle.std.proofs.lemmas.Bool.Decides.{same_from_decides}
 use Rattle.game.specs.declared.Row.{Row}
 use Rattle.game.specs.Members.{row_of}
-use Rattle.game.specs.Computed.{any_of}
-use Rattle.book.specs.Offers.{said, row_eq}
-use Rattle.book.specs.Blank.{blank_row}
-use Rattle.book.proofs.Scanning.{any_here, any_next, any_end}
+use Rattle.book.specs.Offers.{row_eq}
+use Rattle.book.proofs.Scanning.{any_said}
+use Rattle.book.proofs.Equals.{row_eq_tells}
 use Rattle.book.proofs.held.is_among.Goals as goal
-
-pub returns-then-is_same : goal.returns-then-is_same
-returns-then-is_same c =
-    let test = λ (x : Row). row_eq (row_of c.args.row.now) (row_of x) in
-    let all = λ (xs : List Row). any_of (row_eq (row_of c.args.row.now)) (said xs) in
-    any_here all test refl (λ x xs. refl) c.args.rows.now c.loop-old.old-index blank_row c.loop-old-test.true c.loop-old.invariant c.if-is_same.ensures
-
-pub loop-old-preserved : goal.loop-old-preserved
-loop-old-preserved c =
-    let test = λ (x : Row). row_eq (row_of c.args.row.now) (row_of x) in
-    let all = λ (xs : List Row). any_of (row_eq (row_of c.args.row.now)) (said xs) in
-    any_next all test refl (λ x xs. refl) c.args.rows.now c.loop-old.old-index blank_row c.loop-old-test.true c.loop-old.invariant c.if-is_same.ensures
 
 pub returns : goal.returns
 returns c =
-    let test = λ (x : Row). row_eq (row_of c.args.row.now) (row_of x) in
-    let all = λ (xs : List Row). any_of (row_eq (row_of c.args.row.now)) (said xs) in
-    any_end all test refl (λ x xs. refl) c.args.rows.now c.loop-old.old-index c.loop-old-test.false c.loop-old.invariant
+    let test = row_eq (row_of c.args.row.now) in
+    any_from_yields_List (λ (r : Row). test (row_of r)) _ _ _ c.any.ensures.ran (YieldsList-from_slice c.args.rows.now cc) (λ x b q k. (search (rules, tests), same_from_decides b _ (search (rules, tests)) (row_eq_tells (row_of c.args.row.now) (row_of x.now))))
+    ∙ any_said test c.args.rows.now

@@ -1,30 +1,15 @@
-use Rattle.std.proofs.Common.{◌<◌, ◌≤◌, [], length, arith}
+use Rattle.std.proofs.Common.{◌<◌, length, sym, arith}
+use Rattle.std.proofs.lemmas.Result.{err_from_is_err_and}
 use Rattle.profile.specs.Kinds.{event_kind}
-use Rattle.game.specs.Rows.{leads_to, answers, gathered}
+use Rattle.game.specs.Rows.{leads_to, answers}
 use Rattle.book.specs.Sides.{player}
-use Rattle.book.proofs.Collecting.{collects_more, collects_none, collects_all}
+use Rattle.book.proofs.Collecting.{stays_too_many, gathered_here}
 use Rattle.book.proofs.reply.replies.Goals as goal
 
-pub returns-in-Err : goal.returns-in-Err
-returns-in-Err g c =
-    let test = answers (player c.args.side) c.args.rule c.args.head in
-    let make = leads_to event_kind (player c.args.side) c.args.rule in
+pub returns-in_err-put : goal.returns-in_err-put
+returns-in_err-put g c =
+    let p = err_from_is_err_and c.from_residual.result c.from_residual.ensures.1 in
     let slots = g.P.Profile.rules c.args.replier.now in
     let inside : c.loop-i.i < length slots = omega (arith, c.slots-all.ensures) in
-    collects_none test make c.loop-i.held slots c.loop-i.i c.slot.result (gathered test make slots []) inside c.slot.ensures c.loop-i.invariant c.in-Err.why c.in-Err.ensures
-
-pub loop-i-preserved : goal.loop-i-preserved
-loop-i-preserved g c =
-    let test = answers (player c.args.side) c.args.rule c.args.head in
-    let make = leads_to event_kind (player c.args.side) c.args.rule in
-    let slots = g.P.Profile.rules c.args.replier.now in
-    let inside : c.loop-i.i < length slots = omega (arith, c.slots-all.ensures) in
-    collects_more test make c.loop-i.held slots c.loop-i.i c.slot.result (gathered test make slots []) inside c.slot.ensures c.loop-i.invariant c.in-Ok.more c.in-Ok.ensures
-
-pub returns : goal.returns
-returns g c =
-    let test = answers (player c.args.side) c.args.rule c.args.head in
-    let make = leads_to event_kind (player c.args.side) c.args.rule in
-    let slots = g.P.Profile.rules c.args.replier.now in
-    let end : length slots ≤ c.loop-i.i = omega (arith, c.slots-all.ensures) in
-    collects_all test make c.loop-i.held slots c.loop-i.i (gathered test make slots []) end c.loop-i.invariant
+    let more = gathered_here (answers (player c.args.side) c.args.rule c.args.head) (leads_to event_kind (player c.args.side) c.args.rule) slots c.loop-i.i c.in-Some.reply c.loop-i.members inside c.in-Some.ensures (sym c.if-is_reply.ensures) in
+    rw (p.1, p.2) (stays_too_many _ _ _ (rw c.led_to.ensures at c.in_err-put.ensures) (rw c.loop-i.invariant.whole at more))
