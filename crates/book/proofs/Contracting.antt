@@ -1,6 +1,6 @@
 -- The guarantee told by the calls' own contracts, turn after turn.
-use Rattle.std.proofs.Common.{◌≡◌, ℕ, ◌+◌, ◌-◌, ◌<◌, ◌≤◌, Bool, true, false, List, [], ◌∷◌, ◌++◌, length, get_or, take, drop, set, Option, sym, refl, ap, ◌∙◌, subst, arith}
-use Rattle.std.proofs.lemmas.List.{take-take, take_all, take_at, take_more, take_more_set, take-append-drop, drop_more, drop-drop, drop-set-lt, length-append, map-append, append_assoc, append-nil}
+use Rattle.std.proofs.Common.{◌≡◌, ℕ, ◌≤◌, Bool, true, false, List, [], ◌∷◌, ◌++◌, length, take, drop, Option, sym, refl, ap, ◌∙◌, subst, arith}
+use Rattle.std.proofs.lemmas.List.{take-take, take_at, take-append-drop, length-append, append_assoc, append-nil}
 use Rattle.ordered.specs.Laws.{In}
 use Rattle.profile.specs.declared.Kind.{Kind}
 use Rattle.profile.specs.declared.Rule.{Rule}
@@ -17,8 +17,9 @@ use Rattle.book.specs.Offers.{said, held_rows}
 use Rattle.book.specs.Turns.{held_of, start_of, is_completed, Steps}
 use Rattle.book.specs.Guarantee.{completed_by, held_after, completed_after, DraftCall, ComesTo, TurnKept, BookKept}
 use Rattle.book.specs.ByContract.{rows_held, book_with, lent_at, TurnByContract, TurnsByContract, GuaranteeByContract}
-use Rattle.book.proofs.Lending.{held_long, held_take}
+use Rattle.book.proofs.Lending.{held_long, held_take, past_stays}
 use Rattle.book.proofs.Seconds.{second_book}
+use Rattle.book.proofs.Turning.{held_after_next, completed_after_next, calls_next}
 use Rattle.book.proofs.Walking.{StepKept}
 
 -- a book by its start, its state and its count
@@ -92,20 +93,12 @@ module _ (kinds : ℕ → Option Kind) (station manual : List (Option Rule)) (st
   contract_next first last completed held [] t w k = (k, tt)
   contract_next first last completed held (s ∷ ts) t w k = (w.0, contract_next first last (completed_by completed s.answer) s.held ts t w.1 k)
 
-  held_after_next : (held : ℕ) (ts : List Turn) (t : Turn) → held_after held (ts ++ t ∷ []) ≡ t.held
-  held_after_next held [] t = refl
-  held_after_next held (s ∷ ts) t = held_after_next s.held ts t
-
-  completed_after_next : (completed : Bool) (ts : List Turn) (t : Turn) → completed_after completed (ts ++ t ∷ []) ≡ completed_by (completed_after completed ts) t.answer
-  completed_after_next completed [] t = refl
-  completed_after_next completed (s ∷ ts) t = completed_after_next (completed_by completed s.answer) ts t
-
   module _ (first : List LentRow) where
-    guarantee_next : (completed : Bool) (held : ℕ) (given ts : List Turn) (before : Book) (was : List LentRow) (g t : Turn) (is : List LentRow) (after : Book) →
+    pub by_contract_next : (completed : Bool) (held : ℕ) (given ts : List Turn) (before : Book) (was : List LentRow) (g t : Turn) (is : List LentRow) (after : Book) →
         GuaranteeByContract kinds station manual start room completed held given ts first before was → StepKept kinds station manual start room before was t.call is after t.answer →
         Steps kinds station manual before was t.call is after t.answer → t.held ≡ held_of after → t.call ≡ g.call →
         GuaranteeByContract kinds station manual start room completed held (given ++ g ∷ []) (ts ++ t ∷ []) first after is
-    guarantee_next completed held given ts before was g t is after w s steps e f =
+    by_contract_next completed held given ts before was g t is after w s steps e f =
         let k = w.book_kept in
         let l = s.kept in
         let few = k.within in
@@ -118,7 +111,6 @@ module _ (kinds : ℕ → Option Kind) (station manual : List (Option Rule)) (st
         let lengths = ap length grown ∙ length-append (rows_held before was) more in
         let up : held_of before ≤ held_of after = omega arith in
         let kept_rows = w.rows_held_before_stay in
-        let split : held_of before + (held_of after - held_of before) ≡ held_of after = omega arith in
         let now_completed = completed_after completed ts in
         let now_held = held_after held ts in
         let held_is : held_of before ≡ now_held = ap (λ (b : Book). held_of b) w.the_book_is_as_the_last_turn_says ∙ held_of_with start now_completed now_held in
@@ -128,9 +120,7 @@ module _ (kinds : ℕ → Option Kind) (station manual : List (Option Rule)) (st
         sym (take_at (rows_held before was) more (held_of before) long) ∙
         ap (take (held_of before)) (sym grown ∙ held_take is (held_of after) (omega arith)) ∙
         take-take (held_of before) (held_of after) is up in
-        let past : drop (held_of after) is ≡ drop (held_of after) first =
-        s.untouched ∙ ap (λ (n : ℕ). drop n was) (sym split) ∙ sym (drop-drop (held_of after - held_of before) (held_of before) was) ∙
-        ap (drop (held_of after - held_of before)) w.rows_past_the_held_are_as_they_were ∙ drop-drop (held_of after - held_of before) (held_of before) first ∙ ap (λ (n : ℕ). drop n first) split in
+        let past = past_stays (held_of before) (held_of after) first was is up w.rows_past_the_held_are_as_they_were s.untouched in
         let was_is : was ≡ lent_at first is now_held =
         sym (take-append-drop (held_of before) was) ∙ (λ i. front i ++ w.rows_past_the_held_are_as_they_were i) ∙ ap (λ (n : ℕ). lent_at first is n) held_is in
         let is_is : is ≡ lent_at first is t.held =
@@ -139,10 +129,7 @@ module _ (kinds : ℕ → Option Kind) (station manual : List (Option Rule)) (st
         book_as start after l.same_start ∙ ap (λ (b : Bool). book_with start b (held_of after)) (s.completed ∙ ap (λ (b : Bool). completed_by b t.answer) completed_is) ∙
         ap (λ (n : ℕ). book_with start (completed_by now_completed t.answer) n) (sym e) in
         record {
-          calls_are_those_given =
-              map-append (λ (x : Turn). x.call) ts (t ∷ []) ∙
-              (λ i. w.calls_are_those_given i ++ f i ∷ []) ∙
-              sym (map-append (λ (x : Turn). x.call) given (g ∷ []));
+          calls_are_those_given = calls_next given ts g t w.calls_are_those_given f;
           each_turn_kept = contract_next first is completed held ts t
               (contract_more first was is (held_of before) front completed held ts (omega arith) w.each_turn_kept)
               (subst (λ (b : Book). TurnByContract kinds station manual start room b (lent_at first is now_held) t (book_with start (completed_by now_completed t.answer) t.held) (lent_at first is t.held)) w.the_book_is_as_the_last_turn_says
@@ -159,39 +146,14 @@ module _ (kinds : ℕ → Option Kind) (station manual : List (Option Rule)) (st
           book_kept = l;
         }
 
-    -- the loop over the turns: those that are left are as they were given
-    pub contract_begins : (given : List Turn) (before : Book) → BookKept kinds station manual start room before first →
-        GuaranteeByContract kinds station manual start room (is_completed before) (held_of before) (take 0 given) (take 0 given) first before first × (drop 0 given ≡ drop 0 given)
-    contract_begins given before k = (
-      record {
-        calls_are_those_given = refl;
-        each_turn_kept = tt;
-        the_book_is_as_the_last_turn_says = book_as start before k.same_start;
-        rows_held_before_stay = ([], sym (append-nil (held_rows first (held_of before))));
-        rows_past_the_held_are_as_they_were = refl;
-        lines_replay = λ other many_usable. second_book kinds station manual start room (rows_held before first) other k.lines_replay many_usable;
-        book_kept = k;
-      },
-      refl,
-    )
-
-    pub contract_goes_on : (completed : Bool) (held : ℕ) (given turns : List Turn) (i : ℕ) (d t : Turn) (before : Book) (was is : List LentRow) (after : Book) → i < length turns → length turns ≡ length given →
-        GuaranteeByContract kinds station manual start room completed held (take i given) (take i turns) first before was → drop i turns ≡ drop i given →
-        StepKept kinds station manual start room before was t.call is after t.answer → Steps kinds station manual before was t.call is after t.answer → t.held ≡ held_of after → t.call ≡ (get_or turns i d).call →
-        GuaranteeByContract kinds station manual start room completed held (take (i + 1) given) (take (i + 1) (set turns i t)) first after is × (drop (i + 1) (set turns i t) ≡ drop (i + 1) given)
-    contract_goes_on completed held given turns i d t before was is after inside long w rest s steps e f =
-        let p = drop_more turns i d inside in
-        let q = drop_more given i d (omega arith) in
-        let here : get_or turns i d ≡ get_or given i d = cc in
-        let later : drop (i + 1) turns ≡ drop (i + 1) given = cc in (
-          subst (λ (x : List Turn). GuaranteeByContract kinds station manual start room completed held x (take (i + 1) (set turns i t)) first after is) (sym (take_more given i d (omega arith)))
-              (subst (λ (x : List Turn). GuaranteeByContract kinds station manual start room completed held (take i given ++ get_or given i d ∷ []) x first after is) (sym (take_more_set turns i t inside))
-              (guarantee_next completed held (take i given) (take i turns) before was (get_or given i d) t is after w s steps e (f ∙ ap (λ (x : Turn). x.call) here))),
-          drop-set-lt (i + 1) turns i t (omega arith) ∙ later,
-        )
-
-    pub contract_ends : (completed : Bool) (held : ℕ) (given turns : List Turn) (i : ℕ) (after : Book) (is : List LentRow) → length turns ≤ i → length turns ≡ length given →
-        GuaranteeByContract kinds station manual start room completed held (take i given) (take i turns) first after is → GuaranteeByContract kinds station manual start room completed held given turns first after is
-    contract_ends completed held given turns i after is le long w =
-        subst (λ (x : List Turn). GuaranteeByContract kinds station manual start room completed held x turns first after is) (take_all i given (omega arith))
-        (subst (λ (x : List Turn). GuaranteeByContract kinds station manual start room completed held (take i given) x first after is) (take_all i turns le) w)
+    pub by_contract_begins : (before : Book) → BookKept kinds station manual start room before first →
+        GuaranteeByContract kinds station manual start room (is_completed before) (held_of before) [] [] first before first
+    by_contract_begins before k = record {
+      calls_are_those_given = refl;
+      each_turn_kept = tt;
+      the_book_is_as_the_last_turn_says = book_as start before k.same_start;
+      rows_held_before_stay = ([], sym (append-nil (held_rows first (held_of before))));
+      rows_past_the_held_are_as_they_were = refl;
+      lines_replay = λ other many_usable. second_book kinds station manual start room (rows_held before first) other k.lines_replay many_usable;
+      book_kept = k;
+    }

@@ -17,11 +17,10 @@ use Rattle.book.proofs.Ranges.{SmallHead}
 use Rattle.book.proofs.Replays.{built_grown, built_sound}
 use Rattle.book.proofs.Endings.{stuck_does_not_fit, settled_fits, settled_has_the_derivable, settled_refines}
 use Rattle.book.proofs.Keeping.{what_is_missing}
-use Rattle.book.proofs.Stepping.{impossible}
 use Rattle.book.proofs.Walking.{starts_small}
 
 refines_off : (b : Bool) → cond b verdict.Refuted verdict.Refines ≡ verdict.Refines → b ≡ false
-refines_off true e = impossible (cc)
+refines_off true e = cc
 refines_off false e = refl
 
 module _ (kinds : ℕ → Option Kind) (station manual : List (Option Rule)) (o p : ℕ × ℕ) (lawful_station : LawfulProfile kinds station o) (lawful_manual : LawfulProfile kinds manual p)

@@ -1,6 +1,6 @@
 -- The enters at a head, slot by slot and side by side.
-use Rattle.std.proofs.Common.{◌≡◌, ℕ, zero, suc, ◌+◌, ◌<◌, ◌≤◌, true, false, cond, ◌&&◌, ltb, ◌⊎◌, List, [], ◌∷◌, ◌++◌, length, get_or, take, Some, None, Option, sym, refl, ap, ◌∙◌, subst, inl, inr, ⊎_elim, arith}
-use Rattle.std.proofs.lemmas.List.{get_or_past, take_more, take_all, length-take-le}
+use Rattle.std.proofs.Common.{◌≡◌, ℕ, zero, suc, ◌+◌, ◌<◌, ◌≤◌, true, false, cond, ◌&&◌, ltb, ◌⊎◌, List, [], ◌∷◌, ◌++◌, length, get_or, take, Some, None, Option, Result, sym, refl, ap, ◌∙◌, subst, inl, inr, ⊎_elim, arith, length-take}
+use Rattle.std.proofs.lemmas.List.{get_or_past, get_or-take, take_more, take_all, length-take-le}
 use Rattle.std.proofs.lemmas.Bool.{both_ways, and_from, lt-ltb, eq-eqb, cases_lt}
 use Rattle.ordered.specs.Laws.{In}
 use Rattle.profile.specs.declared.Kind.{Kind}
@@ -20,24 +20,23 @@ use Rattle.game.proofs.Gathering.{some_same, some_is_not_none}
 use Rattle.game.proofs.Testing.{called_for_means, called_for_shown}
 use Rattle.book.specs.declared.reply.Side.{Side}
 use Rattle.book.specs.declared.reply.Side.TheVariants.{Station, Manual}
-use Rattle.book.specs.declared.search.Progress.{Progress}
+use Rattle.book.specs.declared.search.Unfit.{Unfit}
 use Rattle.book.specs.Offers.{usable, said, Attempt, by_station_rule, by_manual_rule, attempt, attempt_called, line_called, row_at, blank_member}
 use Rattle.book.specs.Sides.{side_number, slots_of, rule_at, enter_at, InBytes}
 use Rattle.book.specs.Blank.{blank_row}
-use Rattle.book.specs.Trying.{Known, new_tried, Tried, HeadTried, SlotTried, SideTried, MembersTried, Stepped, line_tried, slot_tried, side_tried, head_tried, top_tried, members_tried, tops_tried}
-use Rattle.book.proofs.Numbers.{said_length, row_has_number}
+use Rattle.book.specs.Trying.{Known, new_tried, Tried, HeadTried, SlotTried, SideTried, MembersTried, WentOn, Stepped, line_tried, slot_tried, side_tried, head_tried, top_tried, members_tried, tops_tried}
+use Rattle.book.proofs.Numbers.{said_length, row_read, row_has_number}
 use Rattle.book.proofs.Searching.{row_at_inside, in_front, tried_more, head_tried_more, done_more}
-use Rattle.book.proofs.Trials.{stepped_then, stepped_for}
+use Rattle.book.proofs.Trials.{went_then, stepped_then, went_for}
 
 -- how many rows are said, and which one stands at a place
 pub said_many : (n : ℕ) (rows : List Row) → n ≤ length rows → length (said (take n rows)) ≡ n
 said_many n rows h = said_length (take n rows) ∙ length-take-le n rows h
 
 pub said_at : (n : ℕ) (rows : List Row) (k : ℕ) (d : Row) → k < n → k < length rows → row_at (said (take n rows)) k ≡ Some (row_of (get_or rows k d))
-said_at n [] k d h i = absurd (omega arith)
-said_at zero (r ∷ rows) k d h i = absurd (omega arith)
-said_at (suc n) (r ∷ rows) zero d h i = refl
-said_at (suc n) (r ∷ rows) (suc k) d h i = said_at n rows k d (omega arith) (omega arith)
+said_at n rows k d h i =
+    let inside : k < length (take n rows) = simp length-take (omega arith) in
+    row_read (take n rows) k d inside ∙ ap (λ (r : Row). Some (row_of r)) (get_or-take n rows k d h)
 
 -- the elements before a place, and the one at it
 pub read_is_in : {X : Type 0} (xs : List X) (i : ℕ) (d : X) → i < length xs → In (get_or xs i d) xs
@@ -155,38 +154,38 @@ module _ (kinds : ℕ → Option Kind) (station manual : List (Option Rule)) (st
   side_more rows more side i h s slot l state symbol a e f = tried_more kinds station manual start rows more (Enter (side_number side) slot state symbol) tt (s slot l state symbol a e f)
 
   -- the loop over the slots of a side
-  pub side_goes_on : (n : ℕ) (was mid is : List Row) (p q : Progress) (side : Side) (i : ℕ) (h : Head) →
-      Stepped kinds station manual start (usable was) n was (side_tried kinds station manual start (said (take n was)) side i h) p mid → p.stuck ≡ false →
-      Stepped kinds station manual start (usable mid) p.count mid (slot_tried kinds station manual start (said (take p.count mid)) side i h) q is →
-      Stepped kinds station manual start (usable was) n was (side_tried kinds station manual start (said (take n was)) side (i + 1) h) q is
-  side_goes_on n was mid is p q side i h a off b =
-      stepped_then kinds station manual start n was mid is p q
-      (side_tried kinds station manual start (said (take n was)) side i h) (slot_tried kinds station manual start (said (take p.count mid)) side i h) (side_tried kinds station manual start (said (take n was)) side (i + 1) h)
-      a off b
+  pub side_goes_on : (n : ℕ) (was mid is : List Row) (p q : ℕ) (side : Side) (i : ℕ) (h : Head) →
+      WentOn kinds station manual start (usable was) n was (side_tried kinds station manual start (said (take n was)) side i h) p mid →
+      WentOn kinds station manual start (usable mid) p mid (slot_tried kinds station manual start (said (take p mid)) side i h) q is →
+      WentOn kinds station manual start (usable was) n was (side_tried kinds station manual start (said (take n was)) side (i + 1) h) q is
+  side_goes_on n was mid is p q side i h a b =
+      went_then kinds station manual start n was mid is p q
+      (side_tried kinds station manual start (said (take n was)) side i h) (slot_tried kinds station manual start (said (take p mid)) side i h) (side_tried kinds station manual start (said (take n was)) side (i + 1) h)
+      a b
       (λ some more e f x y c.
       subst (λ (l : List AttackRow). SideTried kinds station manual start l side (i + 1) h) (sym f)
-      (side_next (said (take p.count mid)) more side i h (x c)
+      (side_next (said (take p mid)) more side i h (x c)
       (subst (λ (l : List AttackRow). SlotTried kinds station manual start l side i h) f
       (y (subst (λ (l : List AttackRow). called_for start l h ≡ true) (sym e) (called_for_more start (said (take n was)) some h c))))))
 
-  pub side_ends : (n : ℕ) (was is : List Row) (p : Progress) (side : Side) (i all : ℕ) (h : Head) →
-      Stepped kinds station manual start (usable was) n was (side_tried kinds station manual start (said (take n was)) side i h) p is → all ≤ i →
-      Stepped kinds station manual start (usable was) n was (side_tried kinds station manual start (said (take n was)) side all h) p is
+  pub side_ends : (n : ℕ) (was is : List Row) (p : ℕ) (side : Side) (i all : ℕ) (h : Head) →
+      WentOn kinds station manual start (usable was) n was (side_tried kinds station manual start (said (take n was)) side i h) p is → all ≤ i →
+      WentOn kinds station manual start (usable was) n was (side_tried kinds station manual start (said (take n was)) side all h) p is
   side_ends n was is p side i all h a le =
-      stepped_for kinds station manual start n was is p _ (side_tried kinds station manual start (said (take n was)) side all h) a (λ some e d c slot l. d c slot (omega arith))
+      went_for kinds station manual start n was is p _ (side_tried kinds station manual start (said (take n was)) side all h) a (λ d c slot l. d c slot (omega arith))
 
   -- one side after the other
-  pub head_done : (n : ℕ) (was mid is : List Row) (p q : Progress) (h : Head) →
-      Stepped kinds station manual start (usable was) n was (side_tried kinds station manual start (said (take n was)) Station (length station) h) p mid → p.stuck ≡ false →
-      Stepped kinds station manual start (usable mid) p.count mid (side_tried kinds station manual start (said (take p.count mid)) Manual (length manual) h) q is →
-      Stepped kinds station manual start (usable was) n was (head_tried kinds station manual start (said (take n was)) h) q is
-  head_done n was mid is p q h a off b =
-      stepped_then kinds station manual start n was mid is p q
-      (side_tried kinds station manual start (said (take n was)) Station (length station) h) (side_tried kinds station manual start (said (take p.count mid)) Manual (length manual) h) (head_tried kinds station manual start (said (take n was)) h)
-      a off b
-      (λ some more e f x y c.
+  pub head_done : (n : ℕ) (was mid is : List Row) (p : ℕ) (r : Result ℕ Unfit) (h : Head) →
+      WentOn kinds station manual start (usable was) n was (side_tried kinds station manual start (said (take n was)) Station (length station) h) p mid →
+      Stepped kinds station manual start (usable mid) p mid (side_tried kinds station manual start (said (take p mid)) Manual (length manual) h) r is →
+      Stepped kinds station manual start (usable was) n was (head_tried kinds station manual start (said (take n was)) h) r is
+  head_done n was mid is p r h a b =
+      stepped_then kinds station manual start n was mid is p r
+      (side_tried kinds station manual start (said (take n was)) Station (length station) h) (side_tried kinds station manual start (said (take p mid)) Manual (length manual) h) (head_tried kinds station manual start (said (take n was)) h)
+      a b
+      (λ q some more e f x y c.
       subst (λ (l : List AttackRow). HeadTried kinds station manual start l h) (sym f)
-      (both_sides (said (take p.count mid) ++ more) h (side_more (said (take p.count mid)) more Station (length station) h (x c))
+      (both_sides (said (take p mid) ++ more) h (side_more (said (take p mid)) more Station (length station) h (x c))
       (subst (λ (l : List AttackRow). SideTried kinds station manual start l Manual (length manual) h) f
       (y (subst (λ (l : List AttackRow). called_for start l h ≡ true) (sym e) (called_for_more start (said (take n was)) some h c))))))
 
@@ -195,12 +194,12 @@ module _ (kinds : ℕ → Option Kind) (station manual : List (Option Rule)) (st
   known_more rows more k le x = (head_tried_more kinds station manual start rows more start x.0, done_more kinds station manual start rows more k le x.1)
 
   -- a head that the starts or a row that is done with called for was entered
-  pub known_head : (n done part : ℕ) (was : List Row) (h : Head) → n ≤ usable was → done ≤ n → part ≡ done → true ≡ called_for start (said (take part was)) h →
+  pub known_head : (n done : ℕ) (was : List Row) (h : Head) → n ≤ usable was → done ≤ n → true ≡ called_for start (said (take done was)) h →
       new_tried kinds station manual start (said (take n was)) done h (said (take n was))
-  known_head n done part was h le below same on called x =
+  known_head n done was h le below on called x =
       let inside : done ≤ length was = omega arith in
       let many = said_many done was inside in
-      elim (called_for_means start (said (take done was)) h (ap (λ (k : ℕ). called_for start (said (take k was)) h) (sym same) ∙ sym on)) [
+      elim (called_for_means start (said (take done was)) h (sym on)) [
         | inl s ↦ subst (λ (z : Head). HeadTried kinds station manual start (said (take n was)) z) (sym s) x.0
         | inr by ↦ (let num = row_has_number (said (take done was)) by.0 by.1 in
             let small = row_at_inside (said (take done was)) num.0 by.0 num.1 in
@@ -214,21 +213,21 @@ module _ (kinds : ℕ → Option Kind) (station manual : List (Option Rule)) (st
   top_by_head before done top head after t d h e = subst (λ (x : Head). new_tried kinds station manual start before done x after) (some_same head h (sym t ∙ e)) d
 
   -- the tops of members, one after the other
-  pub members_go_on : (n done : ℕ) (was mid is : List Row) (p q : Progress) (ms : List Member) (i : ℕ) (top : Option Head) → n ≤ usable was → done ≤ n → i < length ms → top ≡ top_of (get_or ms i blank_member) →
-      Stepped kinds station manual start (usable was) n was (members_tried kinds station manual start (said (take n was)) done ms (take i ms)) p mid → p.stuck ≡ false →
-      Stepped kinds station manual start (usable mid) p.count mid (top_tried kinds station manual start (said (take p.count mid)) done top) q is →
-      Stepped kinds station manual start (usable was) n was (members_tried kinds station manual start (said (take n was)) done ms (take (i + 1) ms)) q is
-  members_go_on n done was mid is p q ms i top le below inside t a off b =
+  pub members_go_on : (n done : ℕ) (was mid is : List Row) (p q : ℕ) (ms : List Member) (i : ℕ) (top : Option Head) → n ≤ usable was → done ≤ n → i < length ms → top ≡ top_of (get_or ms i blank_member) →
+      WentOn kinds station manual start (usable was) n was (members_tried kinds station manual start (said (take n was)) done ms (take i ms)) p mid →
+      WentOn kinds station manual start (usable mid) p mid (top_tried kinds station manual start (said (take p mid)) done top) q is →
+      WentOn kinds station manual start (usable was) n was (members_tried kinds station manual start (said (take n was)) done ms (take (i + 1) ms)) q is
+  members_go_on n done was mid is p q ms i top le below inside t a b =
       let few : n ≤ length was = omega arith in
       let many = said_many n was few in
-      stepped_then kinds station manual start n was mid is p q
-      (members_tried kinds station manual start (said (take n was)) done ms (take i ms)) (top_tried kinds station manual start (said (take p.count mid)) done top) (members_tried kinds station manual start (said (take n was)) done ms (take (i + 1) ms))
-      a off b
+      went_then kinds station manual start n was mid is p q
+      (members_tried kinds station manual start (said (take n was)) done ms (take i ms)) (top_tried kinds station manual start (said (take p mid)) done top) (members_tried kinds station manual start (said (take n was)) done ms (take (i + 1) ms))
+      a b
       (λ some more e f x y known row same k m l h g.
       elim (among_next ms i blank_member m inside l) [
-        | inl old ↦ subst (λ (z : List AttackRow). HeadTried kinds station manual start z h) (sym f) (head_tried_more kinds station manual start (said (take p.count mid)) more h (x known row same k m old h g))
+        | inl old ↦ subst (λ (z : List AttackRow). HeadTried kinds station manual start z h) (sym f) (head_tried_more kinds station manual start (said (take p mid)) more h (x known row same k m old h g))
         | inr new ↦ y h (t ∙ ap top_of (sym new) ∙ g)
-            (called_for_shown start (said (take p.count mid)) h
+            (called_for_shown start (said (take p mid)) h
             (inr (
               row,
               subst (λ (z : List AttackRow). In row z) (sym e) (in_front row (said (take n was)) some k),
@@ -239,9 +238,9 @@ module _ (kinds : ℕ → Option Kind) (station manual : List (Option Rule)) (st
             (subst (λ (z : List AttackRow). Known kinds station manual start z done) (sym e) (known_more (said (take n was)) some done (omega arith) known))
       ])
 
-  pub members_end : (n done : ℕ) (was is : List Row) (p : Progress) (row : AttackRow) (ms : List Member) (i : ℕ) → row.members ≡ ms → length ms ≤ i →
-      Stepped kinds station manual start (usable was) n was (members_tried kinds station manual start (said (take n was)) done ms (take i ms)) p is →
-      Stepped kinds station manual start (usable was) n was (tops_tried kinds station manual start (said (take n was)) done row) p is
+  pub members_end : (n done : ℕ) (was is : List Row) (p : ℕ) (row : AttackRow) (ms : List Member) (i : ℕ) → row.members ≡ ms → length ms ≤ i →
+      WentOn kinds station manual start (usable was) n was (members_tried kinds station manual start (said (take n was)) done ms (take i ms)) p is →
+      WentOn kinds station manual start (usable was) n was (tops_tried kinds station manual start (said (take n was)) done row) p is
   members_end n done was is p row ms i same le a =
-      stepped_for kinds station manual start n was is p (members_tried kinds station manual start (said (take n was)) done ms (take i ms)) (tops_tried kinds station manual start (said (take n was)) done row) a
-      (λ some e d known k. subst (λ (l : List Member). MembersTried kinds station manual start (said (take p.count is)) l) (take_all i ms le ∙ sym same) (d known row same k))
+      went_for kinds station manual start n was is p (members_tried kinds station manual start (said (take n was)) done ms (take i ms)) (tops_tried kinds station manual start (said (take n was)) done row) a
+      (λ d known k. subst (λ (l : List Member). MembersTried kinds station manual start (said (take p is)) l) (take_all i ms le ∙ sym same) (d known row same k))

@@ -28,7 +28,6 @@ use Rattle.book.proofs.Tested.{left_out}
 use Rattle.book.proofs.Ranges.{SmallHead}
 use Rattle.book.proofs.Replays.{built_grown, built_sound, built_refuted_wins}
 use Rattle.book.proofs.Endings.{stuck_does_not_fit, settled_fits, settled_has_the_derivable, settled_refines}
-use Rattle.book.proofs.Stepping.{impossible}
 
 -- answers that differ
 refuted_on : (b : Bool) (other : Answer) → (other ≡ answer.Refuted → ⊥) → cond b answer.Refuted other ≡ answer.Refuted → b ≡ true
@@ -40,22 +39,22 @@ other_on true other n e = absurd (n e)
 other_on false other n e = refl
 
 undecided_is_not : answer.Undecided ≡ answer.Refuted → ⊥
-undecided_is_not e = impossible (cc)
+undecided_is_not e = cc
 
 refines_is_not : answer.Refines ≡ answer.Refuted → ⊥
-refines_is_not e = impossible (cc)
+refines_is_not e = cc
 
 module _ (kinds : ℕ → Option Kind) (station manual : List (Option Rule)) (start : Head) (room : ℕ) where
   line_not_refuted : (line : Line) (o : Result AttackRow Refusal) (before after : List LentRow) (reply : Answer) → LineComesTo kinds station manual start room line o before after reply → reply ≡ answer.Refuted → ⊥
-  line_not_refuted line (Ok row) before after reply w e = let f = w.0 in impossible (cc)
-  line_not_refuted line (Err why) before after reply w e = let f = w.0 in impossible (cc)
+  line_not_refuted line (Ok row) before after reply w e = let f = w.0 in cc
+  line_not_refuted line (Err why) before after reply w e = let f = w.0 in cc
 
   line_not_completed : (line : Line) (o : Result AttackRow Refusal) (before after : List LentRow) (reply : Answer) (n : ℕ) → LineComesTo kinds station manual start room line o before after reply → reply ≡ answer.Completed n → ⊥
-  line_not_completed line (Ok row) before after reply n w e = let f = w.0 in impossible (cc)
-  line_not_completed line (Err why) before after reply n w e = let f = w.0 in impossible (cc)
+  line_not_completed line (Ok row) before after reply n w e = let f = w.0 in cc
+  line_not_completed line (Err why) before after reply n w e = let f = w.0 in cc
 
   not_completed : (b : Bool) (other reply : Answer) (n : ℕ) → (other ≡ answer.Completed n → ⊥) → reply ≡ cond b answer.Refuted other → reply ≡ answer.Completed n → ⊥
-  not_completed true other reply n differ e f = impossible (cc)
+  not_completed true other reply n differ e f = cc
   not_completed false other reply n differ e f = differ (sym e ∙ f)
 
   -- an answer that tells refuted: the attacker wins
@@ -64,16 +63,16 @@ module _ (kinds : ℕ → Option Kind) (station manual : List (Option Rule)) (st
   refuted_wins false (call.Enter side slot state symbol) before after reply w built e = absurd (line_not_refuted _ _ before after reply w e)
   refuted_wins false (call.Join i j) before after reply w built e = absurd (line_not_refuted _ _ before after reply w e)
   refuted_wins false call.Search before after reply w built e = elim w.ended [
-    | inl p ↦ (let f = p.0 in impossible (cc))
-    | inr p ↦ (let f = p.0 in impossible (cc))
+    | inl p ↦ (let f = p.0 in cc)
+    | inr p ↦ (let f = p.0 in cc)
   ]
   refuted_wins false call.Ask before after reply w built e =
       built_refuted_wins kinds station manual start room before built (refuted_on (says_refuted start (said before)) answer.Undecided undecided_is_not (sym w.0 ∙ e))
-  refuted_wins false call.Verdict before after reply w built e = let f = w.0 in impossible (cc)
-  refuted_wins true (call.Enter side slot state symbol) before after reply w built e = let f = w.0 in impossible (cc)
-  refuted_wins true (call.Join i j) before after reply w built e = let f = w.0 in impossible (cc)
-  refuted_wins true call.Search before after reply w built e = let f = w.0 in impossible (cc)
-  refuted_wins true call.Ask before after reply w built e = let f = w.0 in impossible (cc)
+  refuted_wins false call.Verdict before after reply w built e = let f = w.0 in cc
+  refuted_wins true (call.Enter side slot state symbol) before after reply w built e = let f = w.0 in cc
+  refuted_wins true (call.Join i j) before after reply w built e = let f = w.0 in cc
+  refuted_wins true call.Search before after reply w built e = let f = w.0 in cc
+  refuted_wins true call.Ask before after reply w built e = let f = w.0 in cc
   refuted_wins true call.Verdict before after reply w built e =
       built_refuted_wins kinds station manual start room before built (refuted_on (says_refuted start (said before)) answer.Refines refines_is_not (sym w.0 ∙ e))
 
@@ -84,15 +83,15 @@ module _ (kinds : ℕ → Option Kind) (station manual : List (Option Rule)) (st
   completed_settled false (call.Join i j) before after reply n w e = absurd (line_not_completed _ _ before after reply n w e)
   completed_settled false call.Search before after reply n w e = elim w.ended [
     | inl p ↦ (w.grown, p.1)
-    | inr p ↦ (let f = p.0 in impossible (cc))
+    | inr p ↦ (let f = p.0 in cc)
   ]
-  completed_settled false call.Ask before after reply n w e = absurd (not_completed (says_refuted start (said before)) answer.Undecided reply n (λ f. impossible (cc)) w.0 e)
-  completed_settled false call.Verdict before after reply n w e = let f = w.0 in impossible (cc)
-  completed_settled true (call.Enter side slot state symbol) before after reply n w e = let f = w.0 in impossible (cc)
-  completed_settled true (call.Join i j) before after reply n w e = let f = w.0 in impossible (cc)
-  completed_settled true call.Search before after reply n w e = let f = w.0 in impossible (cc)
-  completed_settled true call.Ask before after reply n w e = let f = w.0 in impossible (cc)
-  completed_settled true call.Verdict before after reply n w e = absurd (not_completed (says_refuted start (said before)) answer.Refines reply n (λ f. impossible (cc)) w.0 e)
+  completed_settled false call.Ask before after reply n w e = absurd (not_completed (says_refuted start (said before)) answer.Undecided reply n (λ f. cc) w.0 e)
+  completed_settled false call.Verdict before after reply n w e = let f = w.0 in cc
+  completed_settled true (call.Enter side slot state symbol) before after reply n w e = let f = w.0 in cc
+  completed_settled true (call.Join i j) before after reply n w e = let f = w.0 in cc
+  completed_settled true call.Search before after reply n w e = let f = w.0 in cc
+  completed_settled true call.Ask before after reply n w e = let f = w.0 in cc
+  completed_settled true call.Verdict before after reply n w e = absurd (not_completed (says_refuted start (said before)) answer.Refines reply n (λ f. cc) w.0 e)
 
   -- every usable row is taken, or a row too wide is one line away
   pub what_is_missing : (rows : List LentRow) → Built kinds station manual start room rows → Stuck kinds station manual start room rows →
@@ -149,7 +148,7 @@ module _ (kinds : ℕ → Option Kind) (station manual : List (Option Rule)) (st
           let built_after = built_grown kinds station manual start room before after built v.grown in (
             (λ e. elim v.ended [
               | inl p ↦ settled_fits kinds station manual start room after built_after lawful_station lawful_manual small p.1
-              | inr p ↦ (let f = p.0 in impossible (cc))
+              | inr p ↦ (let f = p.0 in cc)
             ]),
             (λ fit. elim v.ended [
               | inl p ↦ p.0 ∙ ap (λ (n : ℕ). answer.Completed n) (sym counts)
@@ -169,7 +168,7 @@ module _ (kinds : ℕ → Option Kind) (station manual : List (Option Rule)) (st
           let built_after = built_grown kinds station manual start room before after built v.grown in
           let sound = built_sound kinds station manual start room after built_after in
           elim v.ended [
-            | inl p ↦ (let f = p.0 in impossible (cc))
+            | inl p ↦ (let f = p.0 in cc)
             | inr p ↦ record {
               derivable = sound.derivable;
               different = sound.different;

@@ -1,6 +1,6 @@
 -- Lent rows, of which some are held.
-use Rattle.std.proofs.Common.{◌≡◌, ℕ, ◌+◌, ◌<◌, ◌≤◌, min, List, [], ◌∷◌, ◌++◌, length, take, set, sym, ap, ◌∙◌, arith, length-take}
-use Rattle.std.proofs.lemmas.List.{take-take, take_more_set, length-take-le, length-set}
+use Rattle.std.proofs.Common.{◌≡◌, ℕ, ◌+◌, ◌-◌, ◌<◌, ◌≤◌, min, List, [], ◌∷◌, ◌++◌, length, take, drop, set, sym, ap, ◌∙◌, arith, length-take}
+use Rattle.std.proofs.lemmas.List.{take-take, drop-drop, take_more_set, length-take-le, length-set}
 use Rattle.game.specs.declared.Row.{Row}
 use Rattle.book.specs.Offers.{usable, held_rows}
 
@@ -18,3 +18,9 @@ held_set lent held row h =
 
 pub usable_set : (lent : List Row) (held : ℕ) (row : Row) → usable (set lent held row) ≡ usable lent
 usable_set lent held row = ap (λ (n : ℕ). min 1024 n) (length-set lent held row)
+
+-- what lies past a place lies past every later one
+pub past_stays : (n m : ℕ) (first was is : List Row) → n ≤ m → drop n was ≡ drop n first → drop m is ≡ drop m was → drop m is ≡ drop m first
+past_stays n m first was is le a b =
+    let split : n + (m - n) ≡ m = omega arith in
+    b ∙ ap (λ (k : ℕ). drop k was) (sym split) ∙ sym (drop-drop (m - n) n was) ∙ ap (drop (m - n)) a ∙ drop-drop (m - n) n first ∙ ap (λ (k : ℕ). drop k first) split

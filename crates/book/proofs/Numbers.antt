@@ -1,5 +1,5 @@
 -- Elements of lists by their numbers, and rows as they are written.
-use Rattle.std.proofs.Common.{◌≡◌, ℕ, zero, suc, ◌-◌, ◌≤◌, min, List, [], ◌∷◌, ◌++◌, length, get_or, take, replicate, Some, None, Option, sym, refl, ap, ◌∙◌, inl, inr, arith}
+use Rattle.std.proofs.Common.{◌≡◌, ℕ, zero, suc, ◌-◌, ◌<◌, ◌≤◌, min, List, [], ◌∷◌, ◌++◌, length, get_or, take, replicate, Some, None, Option, sym, refl, ap, ◌∙◌, inl, inr, arith}
 use Rattle.std.proofs.lemmas.Option.{none-some, same_Some}
 use Rattle.std.proofs.lemmas.List.{take_at, map-append, length-map}
 use Rattle.ordered.specs.Laws.{In}
@@ -30,6 +30,17 @@ lines_append rows more = map-append (λ (r : Row). r.line) rows more
 pub said_written : (rows : List Row) (row : AttackRow) (line : Line) → length row.members ≤ 12 → said (rows ++ written row line ∷ []) ≡ said rows ++ row ∷ []
 said_written rows row line h =
     said_append rows (written row line ∷ []) ∙ ap (λ (x : AttackRow). said rows ++ x ∷ []) (written_is_read row line h)
+
+-- the row with a number, if there is one
+pub row_read : (rows : List Row) (i : ℕ) (d : Row) → i < length rows → row_at (said rows) i ≡ Some (row_of (get_or rows i d))
+row_read [] i d h = absurd (omega arith)
+row_read (r ∷ rs) zero d h = refl
+row_read (r ∷ rs) (suc i) d h = row_read rs i d (omega arith)
+
+pub row_missing : (rows : List Row) (i : ℕ) → length rows ≤ i → row_at (said rows) i ≡ None
+row_missing [] i h = refl
+row_missing (r ∷ rs) zero h = absurd (omega arith)
+row_missing (r ∷ rs) (suc i) h = row_missing rs i (omega arith)
 
 -- the row with a number is among the rows, and every row has a number
 pub row_at_is_in : (rows : List AttackRow) (i : ℕ) (row : AttackRow) → row_at rows i ≡ Some row → In row rows

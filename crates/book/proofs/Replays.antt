@@ -19,7 +19,7 @@ use Rattle.book.specs.Offers.{and_then, said, offer, written, lines, accept, rep
 use Rattle.book.specs.Searches.{Grown}
 use Rattle.book.proofs.Equals.{says_refuted_means}
 use Rattle.book.proofs.Numbers.{lines_append, said_written}
-use Rattle.book.proofs.Tested.{ok_same, err_is_not_ok, line_is_derivable, taken}
+use Rattle.book.proofs.Tested.{ok_same, line_is_derivable, taken}
 
 pub different_with_last : (rows : List AttackRow) (row : AttackRow) → Different rows → (In row rows → ⊥) → Different (rows ++ row ∷ [])
 different_with_last [] row d n = (λ k. k, tt)
@@ -35,7 +35,7 @@ module _ (kinds : ℕ → Option Kind) (station manual : List (Option Rule)) (st
       at : (x : Result AttackRow Refusal) → ◌≡◌ {A = Result (List Row) Refusal} (and_then x (λ row. Ok (rows ++ written row line ∷ []))) (Ok after) →
           (row : AttackRow) × (x ≡ Ok row) × (after ≡ rows ++ written row line ∷ [])
       at (Ok row) e = (row, refl, sym (ok_same (rows ++ written row line ∷ []) after e))
-      at (Err why) e = absurd (err_is_not_ok why after e)
+      at (Err why) e = cc
 
   pub accept_shown : (rows : List Row) (line : Line) (row : AttackRow) → offer kinds station manual start (ltb (length rows) room) (said rows) line ≡ Ok row →
       accept kinds station manual start room rows line ≡ Ok (rows ++ written row line ∷ [])
@@ -98,7 +98,7 @@ module _ (kinds : ℕ → Option Kind) (station manual : List (Option Rule)) (st
         at : ((more end : List Row) → P more → replay kinds station manual start room ls more ≡ Ok end → P end) →
             (x : Result (List Row) Refusal) → accept kinds station manual start room rows l ≡ x → and_then x (replay kinds station manual start room ls) ≡ Ok after → P after
         at rec (Ok more) k f = rec more after (kept rows more l p k) f
-        at rec (Err why) k f = absurd (err_is_not_ok why after f)
+        at rec (Err why) k f = cc
 
     pub built_keeps : P [] → (rows : List Row) → Built kinds station manual start room rows → P rows
     built_keeps p rows built = replay_keeps (lines rows) [] rows p built

@@ -1,62 +1,59 @@
 -- What a search leaves of a draft and the lent rows.
-use Rattle.std.proofs.Common.{◌≡◌, ℕ, ◌-◌, min, max, true, false, List, length, take, drop, Option, refl, ap, ◌∙◌, subst, arith}
+use Rattle.std.proofs.Common.{◌≡◌, ℕ, ◌-◌, min, max, List, length, take, drop, Option, refl, ap, ◌∙◌, subst, arith}
 use Rattle.profile.specs.declared.Kind.{Kind}
 use Rattle.profile.specs.declared.Rule.{Rule}
 use Rattle.game.specs.declared.Row.{Row}
 use Rattle.book.specs.declared.Refusal.TheVariants.{RowsDoNotFit}
 use Rattle.book.specs.declared.state.Draft.{Draft}
-use Rattle.book.specs.declared.search.Progress.{Progress}
-use Rattle.book.specs.Offers.{usable, held_rows}
+use Rattle.book.specs.Offers.{usable, held_rows, said}
 use Rattle.book.specs.Searches.{Settled, Stuck, Grown}
 use Rattle.book.specs.Drafts.{Searched, Completes, LeavesOff}
-use Rattle.book.specs.Trying.{Stepped, all_tried}
+use Rattle.book.specs.Trying.{Went, all_tried}
 use Rattle.book.proofs.Scanning.{held_part}
 use Rattle.book.proofs.Searching.{all_tried_settles}
 
-module _ (kinds : ℕ → Option Kind) (station manual : List (Option Rule)) (d : Draft) (was is : List Row) (p : Progress) (u n h : ℕ)
-    (u_is : u ≡ min (length was) 1024) (n_is : n ≡ min d.held u) (h_is : h ≡ max d.held p.count)
-    (s : Stepped kinds station manual d.start (usable was) n was (all_tried kinds station manual d.start) p is) where
+module _ (kinds : ℕ → Option Kind) (station manual : List (Option Rule)) (d : Draft) (was is : List Row) (p u n h : ℕ)
+    (u_is : u ≡ min (length was) 1024) (n_is : n ≡ min d.held u) (h_is : h ≡ max d.held p)
+    (w : Went kinds station manual d.start (usable was) n was p is) where
   held_before : take n was ≡ held_rows was d.held
   held_before = let e : n ≡ n - 0 = omega arith in ap (λ k. take k was) e ∙ held_part was d.held u n u_is n_is
 
-  counted : p.count ≡ min h (min (length is) 1024)
+  counted : p ≡ min h (min (length is) 1024)
   counted =
-      let forth = s.went.forth in
-      let within = s.went.within in
-      let long = s.went.long in
+      let forth = w.forth in
+      let within = w.within in
+      let long = w.long in
       omega arith
 
-  held_after : take p.count is ≡ held_rows is h
-  held_after = let e : p.count ≡ p.count - 0 = omega arith in ap (λ k. take k is) e ∙ held_part is h (min (length is) 1024) p.count refl counted
+  held_after : take p is ≡ held_rows is h
+  held_after = let e : p ≡ p - 0 = omega arith in ap (λ k. take k is) e ∙ held_part is h (min (length is) 1024) p refl counted
 
   left_so : Searched kinds station manual d was is d.start h
   left_so =
-      let forth = s.went.forth in
-      let within = s.went.within in
-      let long = s.went.long in
-      let c : p.count ≡ min h (usable was) = omega arith in
+      let forth = w.forth in
+      let within = w.within in
+      let long = w.long in
+      let c : p ≡ min h (usable was) = omega arith in
       record {
         same_start = refl;
         grown = subst (λ (x : List Row). Grown kinds station manual d.start (usable was) x (held_rows is h)) held_before
-            (subst (λ (x : List Row). Grown kinds station manual d.start (usable was) (take n was) x) held_after s.went.grown);
+            (subst (λ (x : List Row). Grown kinds station manual d.start (usable was) (take n was) x) held_after w.grown);
         forth = omega arith;
         within = omega arith;
         long = long;
-        kept = subst (λ (k : ℕ). drop k is ≡ drop k was) c s.went.kept;
+        kept = subst (λ (k : ℕ). drop k is ≡ drop k was) c w.kept;
       }
 
-  pub completes_so : p.stuck ≡ false → Completes kinds station manual d was is (record { start = d.start; held = h })
-  completes_so off =
-      let all = s.goal off in
-      record {
-        left = left_so;
-        settled = subst (λ (x : List Row). Settled kinds station manual d.start (usable was) x) held_after
-            (all_tried_settles kinds station manual d.start (usable was) (take p.count is) all.0 all.1);
-      }
+  pub completes_so : all_tried kinds station manual d.start (said (take p is)) → Completes kinds station manual d was is (record { start = d.start; held = h })
+  completes_so all = record {
+    left = left_so;
+    settled = subst (λ (x : List Row). Settled kinds station manual d.start (usable was) x) held_after
+        (all_tried_settles kinds station manual d.start (usable was) (take p is) all.0 all.1);
+  }
 
-  pub leaves_off_so : p.stuck ≡ true → LeavesOff kinds station manual d was is (record { start = d.start; held = h }) RowsDoNotFit
-  leaves_off_so on = record {
+  pub leaves_off_so : Stuck kinds station manual d.start (usable was) (take p is) → LeavesOff kinds station manual d was is (record { start = d.start; held = h }) RowsDoNotFit
+  leaves_off_so stuck = record {
     left = left_so;
     refusal = refl;
-    stuck = subst (λ (x : List Row). Stuck kinds station manual d.start (usable was) x) held_after (s.stuck on);
+    stuck = subst (λ (x : List Row). Stuck kinds station manual d.start (usable was) x) held_after stuck;
   }

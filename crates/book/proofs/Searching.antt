@@ -1,6 +1,6 @@
 -- The search: what was tried stays tried as rows are appended, and when all is tried nothing is missing.
-use Rattle.std.proofs.Common.{◌≡◌, ℕ, zero, suc, ◌+◌, ◌-◌, ◌<◌, ◌≤◌, min, Bool, true, false, cond, ltb, leb, List, [], ◌∷◌, ◌++◌, length, take, drop, set, Some, None, Ok, Err, Option, Result, sym, refl, ap, ◌∙◌, subst, inl, inr, arith}
-use Rattle.std.proofs.lemmas.List.{take_more_set, drop-set-lt, drop-drop, length-take, length-set}
+use Rattle.std.proofs.Common.{◌≡◌, ℕ, zero, suc, ◌+◌, ◌<◌, ◌≤◌, min, Bool, true, false, cond, ltb, leb, List, [], ◌∷◌, ◌++◌, length, take, set, Some, None, Ok, Err, Option, Result, sym, refl, ap, ◌∙◌, subst, inl, inr, arith}
+use Rattle.std.proofs.lemmas.List.{take_more_set, drop-set-lt, length-take, length-set}
 use Rattle.std.proofs.lemmas.Bool.{cond-true, and_parts, le-leb, cases_lt}
 use Rattle.ordered.specs.Laws.{In}
 use Rattle.profile.specs.declared.Kind.{Kind}
@@ -19,6 +19,7 @@ use Rattle.book.specs.Searches.{Idle, Settled, Grown}
 use Rattle.book.specs.Trying.{Tried, HeadTried, TopsTried, DoneBelow, Went}
 use Rattle.book.proofs.Equals.{any_same_shown}
 use Rattle.book.proofs.Numbers.{said_append, row_has_number}
+use Rattle.book.proofs.Lending.{past_stays}
 use Rattle.book.proofs.Replays.{accept_shown, grown_none, grown_by_line, grown_on}
 
 -- lists that begin alike
@@ -28,7 +29,7 @@ in_front x (y ∷ xs) ys (inl e) = inl e
 in_front x (y ∷ xs) ys (inr h) = inr (in_front x xs ys h)
 
 pub row_at_inside : (rows : List AttackRow) (i : ℕ) (row : AttackRow) → row_at rows i ≡ Some row → i < length rows
-row_at_inside [] i row e = let z : ◌≡◌ {A = ℕ} 0 1 = cc in absurd (omega arith)
+row_at_inside [] i row e = cc
 row_at_inside (r ∷ rs) zero row e = omega arith
 row_at_inside (r ∷ rs) (suc i) row e = let h = row_at_inside rs i row e in omega arith
 
@@ -138,8 +139,8 @@ module _ (kinds : ℕ → Option Kind) (station manual : List (Option Rule)) (st
     join_held : DoneBelow kinds station manual start (said rows) (length (said rows)) → (i j : ℕ) (row : AttackRow) → join_of kinds station manual start (row_at (said rows) i) (row_at (said rows) j) ≡ Ok row → In row (said rows)
     join_held d i j row e = at (row_at (said rows) i) (row_at (said rows) j) refl refl e where
       at : (x y : Option AttackRow) → row_at (said rows) i ≡ x → row_at (said rows) j ≡ y → join_of kinds station manual start x y ≡ Ok row → In row (said rows)
-      at None y ex ey h = let z : ◌≡◌ {A = ℕ} 0 1 = cc in absurd (omega arith)
-      at (Some a) None ex ey h = let z : ◌≡◌ {A = ℕ} 0 1 = cc in absurd (omega arith)
+      at None y ex ey h = cc
+      at (Some a) None ex ey h = cc
       at (Some a) (Some b) ex ey h =
           d.joins i (row_at_inside (said rows) i a ex) j (row_at_inside (said rows) j b ey) row
           (ap (λ (x : Option AttackRow). join_of kinds station manual start x (row_at (said rows) j)) ex ∙ ap (λ (y : Option AttackRow). join_of kinds station manual start (Some a) y) ey ∙ h)
@@ -159,13 +160,12 @@ module _ (kinds : ℕ → Option Kind) (station manual : List (Option Rule)) (st
   went_on n m p was mid is a b =
       let f = a.forth in
       let g = b.forth in
-      let e : m + (p - m) ≡ p = omega arith in
       record {
         grown = grown_on kinds station manual start room (take n was) (take m mid) (take p is) a.grown b.grown;
         forth = omega arith;
         within = b.within;
         long = b.long ∙ a.long;
-        kept = b.kept ∙ ap (λ i. drop i mid) (sym e) ∙ sym (drop-drop (p - m) m mid) ∙ ap (drop (p - m)) a.kept ∙ drop-drop (p - m) m was ∙ ap (λ i. drop i was) e;
+        kept = past_stays m p was mid is g a.kept b.kept;
       }
 
   -- a row is appended

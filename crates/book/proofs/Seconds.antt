@@ -12,7 +12,7 @@ use Rattle.book.specs.Offers.{and_then, usable, held_rows, said, offer, written,
 use Rattle.book.specs.Drafts.{empty_draft, draft_offer}
 use Rattle.book.specs.ByContract.{AllAccepted, SecondBook}
 use Rattle.book.proofs.Lending.{held_long, held_set, usable_set}
-use Rattle.book.proofs.Tested.{ok_same, err_is_not_ok, taken}
+use Rattle.book.proofs.Tested.{ok_same, taken}
 use Rattle.book.proofs.Replays.{accepted}
 
 module _ (kinds : ℕ → Option Kind) (station manual : List (Option Rule)) (start : Head) (room : ℕ) where
@@ -57,7 +57,7 @@ module _ (kinds : ℕ → Option Kind) (station manual : List (Option Rule)) (st
             as_many = next.as_many;
             the_same_rows = next.the_same_rows;
           }
-      at rec (Err why) k f = absurd (err_is_not_ok why rows f)
+      at rec (Err why) k f = cc
 
   pub second_book : (rows other : List Row) → Built kinds station manual start room rows → usable other ≡ room → SecondBook kinds station manual start rows other
   second_book rows other built u =

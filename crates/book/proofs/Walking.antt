@@ -1,6 +1,6 @@
 -- One call after the other, and the guarantee all along.
-use Rattle.std.proofs.Common.{◌≡◌, ℕ, ◌+◌, ◌-◌, ◌<◌, ◌≤◌, min, Bool, true, false, cond, ltb, List, [], ◌∷◌, ◌++◌, length, get_or, take, drop, set, Ok, Err, Option, Result, sym, refl, ap, ◌∙◌, subst, inl, inr, arith, length-take}
-use Rattle.std.proofs.lemmas.List.{take_all, take_at, take_more, take_more_set, take-append-le, drop_more, drop-drop, drop-set-lt, length-append, map-append, append_assoc, append-nil}
+use Rattle.std.proofs.Common.{◌≡◌, ℕ, ◌+◌, ◌≤◌, min, Bool, true, false, cond, ltb, List, [], ◌∷◌, ◌++◌, length, take, drop, set, Ok, Err, Option, Result, sym, refl, ap, ◌∙◌, subst, inl, inr, arith, length-take}
+use Rattle.std.proofs.lemmas.List.{take_all, take_at, take-append-le, drop-set-lt, length-append, append_assoc, append-nil}
 use Rattle.std.proofs.lemmas.Bool.{ltb-true, both_ways}
 use Rattle.profile.specs.declared.Kind.{Kind}
 use Rattle.profile.specs.declared.Rule.{Rule}
@@ -32,8 +32,9 @@ use Rattle.book.specs.Guarantee.{completed_by, held_after, completed_after, Line
 use Rattle.book.proofs.Tested.{taken}
 use Rattle.book.proofs.Ranges.{SmallHead}
 use Rattle.book.proofs.Replays.{accept_shown, grown_none, grown_by_line, built_grown}
-use Rattle.book.proofs.Lending.{held_long, held_set, usable_set}
+use Rattle.book.proofs.Lending.{held_long, held_set, usable_set, past_stays}
 use Rattle.book.proofs.Keeping.{turn_kept}
+use Rattle.book.proofs.Turning.{held_after_next, completed_after_next, calls_next}
 
 -- the answers of ask and verdict
 ask_told : (b : Bool) → ask_answer (cond b asked.Refuted asked.Undecided) ≡ cond b answer.Refuted answer.Undecided
@@ -242,16 +243,8 @@ module _ (kinds : ℕ → Option Kind) (station manual : List (Option Rule)) (st
   walk_next rows completed held [] t w k = (k, tt)
   walk_next rows completed held (s ∷ ts) t w k = (w.0, walk_next rows (completed_by completed s.answer) s.held ts t w.1 k)
 
-  held_after_next : (held : ℕ) (ts : List Turn) (t : Turn) → held_after held (ts ++ t ∷ []) ≡ t.held
-  held_after_next held [] t = refl
-  held_after_next held (s ∷ ts) t = held_after_next s.held ts t
-
-  completed_after_next : (completed : Bool) (ts : List Turn) (t : Turn) → completed_after completed (ts ++ t ∷ []) ≡ completed_by (completed_after completed ts) t.answer
-  completed_after_next completed [] t = refl
-  completed_after_next completed (s ∷ ts) t = completed_after_next (completed_by completed s.answer) ts t
-
   module _ (first : List LentRow) where
-    guarantee_next : (completed : Bool) (held : ℕ) (given ts : List Turn) (before : Book) (was : List LentRow) (g t : Turn) (is : List LentRow) (after : Book) →
+    pub guarantee_next : (completed : Bool) (held : ℕ) (given ts : List Turn) (before : Book) (was : List LentRow) (g t : Turn) (is : List LentRow) (after : Book) →
         Guarantee kinds station manual start room completed held given ts first before was → StepKept kinds station manual start room before was t.call is after t.answer → t.held ≡ held_of after → t.call ≡ g.call →
         Guarantee kinds station manual start room completed held (given ++ g ∷ []) (ts ++ t ∷ []) first after is
     guarantee_next completed held given ts before was g t is after w s e f =
@@ -267,17 +260,13 @@ module _ (kinds : ℕ → Option Kind) (station manual : List (Option Rule)) (st
         let lengths = ap length grown ∙ length-append (held_rows was (held_of before)) more in
         let only = w.rows_only_grow in
         let kept_rows = w.rows_held_before_stay in
-        let split : held_of before + (held_of after - held_of before) ≡ held_of after = omega arith in
         let front : take (held_after held ts) (held_rows is (held_of after)) ≡ held_rows was (held_of before) =
         ap (λ (n : ℕ). take n (held_rows is (held_of after))) (sym w.ends_with_the_last.0 ∙ sym long) ∙
         ap (λ (x : List LentRow). take (length (held_rows was (held_of before))) x) grown ∙
         take_at (held_rows was (held_of before)) more (length (held_rows was (held_of before))) refl in
         let whole : take t.held (held_rows is (held_of after)) ≡ held_rows is (held_of after) = take_all t.held (held_rows is (held_of after)) (omega arith) in
         record {
-          calls_are_those_given =
-              map-append (λ (x : Turn). x.call) ts (t ∷ []) ∙
-              (λ i. w.calls_are_those_given i ++ f i ∷ []) ∙
-              sym (map-append (λ (x : Turn). x.call) given (g ∷ []));
+          calls_are_those_given = calls_next given ts g t w.calls_are_those_given f;
           each_turn_kept = walk_next (held_rows is (held_of after)) completed held ts t
               (subst (λ (x : List LentRow). TurnsKept kinds station manual start room x completed held ts) (sym grown)
               (walk_more (held_rows was (held_of before)) more completed held ts (omega arith) w.each_turn_kept))
@@ -291,45 +280,18 @@ module _ (kinds : ℕ → Option Kind) (station manual : List (Option Rule)) (st
             s.completed ∙ ap (λ (b : Bool). completed_by b t.answer) w.ends_with_the_last.1 ∙ sym (completed_after_next completed ts t),
           );
           rows_held_before_stay = (kept_rows.0 ++ more, grown ∙ ap (λ (x : List LentRow). x ++ more) kept_rows.1 ∙ append_assoc (held_rows first held) kept_rows.0 more);
-          rows_past_the_held_are_as_they_were =
-              s.untouched ∙ ap (λ (n : ℕ). drop n was) (sym split) ∙ sym (drop-drop (held_of after - held_of before) (held_of before) was) ∙
-              ap (drop (held_of after - held_of before)) w.rows_past_the_held_are_as_they_were ∙ drop-drop (held_of after - held_of before) (held_of before) first ∙ ap (λ (n : ℕ). drop n first) split;
+          rows_past_the_held_are_as_they_were = past_stays (held_of before) (held_of after) first was is (omega arith) w.rows_past_the_held_are_as_they_were s.untouched;
           book_kept = l;
         }
 
-    -- the loop over the turns: those that are left are as they were given
-    pub walk_begins : (given : List Turn) (before : Book) → BookKept kinds station manual start room before first →
-        Guarantee kinds station manual start room (is_completed before) (held_of before) (take 0 given) (take 0 given) first before first × (drop 0 given ≡ drop 0 given)
-    walk_begins given before k = (
-      record {
-        calls_are_those_given = refl;
-        each_turn_kept = tt;
-        rows_only_grow = omega arith;
-        rows_held_before_stay = ([], sym (append-nil (held_rows first (held_of before))));
-        rows_past_the_held_are_as_they_were = refl;
-        ends_with_the_last = (refl, refl);
-        book_kept = k;
-      },
-      refl,
-    )
-
-    pub walk_goes_on : (completed : Bool) (held : ℕ) (given turns : List Turn) (i : ℕ) (d t : Turn) (before : Book) (was is : List LentRow) (after : Book) → i < length turns → length turns ≡ length given →
-        Guarantee kinds station manual start room completed held (take i given) (take i turns) first before was → drop i turns ≡ drop i given →
-        StepKept kinds station manual start room before was t.call is after t.answer → t.held ≡ held_of after → t.call ≡ (get_or turns i d).call →
-        Guarantee kinds station manual start room completed held (take (i + 1) given) (take (i + 1) (set turns i t)) first after is × (drop (i + 1) (set turns i t) ≡ drop (i + 1) given)
-    walk_goes_on completed held given turns i d t before was is after inside long w rest s e f =
-        let p = drop_more turns i d inside in
-        let q = drop_more given i d (omega arith) in
-        let here : get_or turns i d ≡ get_or given i d = cc in
-        let later : drop (i + 1) turns ≡ drop (i + 1) given = cc in (
-          subst (λ (x : List Turn). Guarantee kinds station manual start room completed held x (take (i + 1) (set turns i t)) first after is) (sym (take_more given i d (omega arith)))
-              (subst (λ (x : List Turn). Guarantee kinds station manual start room completed held (take i given ++ get_or given i d ∷ []) x first after is) (sym (take_more_set turns i t inside))
-              (guarantee_next completed held (take i given) (take i turns) before was (get_or given i d) t is after w s e (f ∙ ap (λ (x : Turn). x.call) here))),
-          drop-set-lt (i + 1) turns i t (omega arith) ∙ later,
-        )
-
-    pub walk_ends : (completed : Bool) (held : ℕ) (given turns : List Turn) (i : ℕ) (after : Book) (is : List LentRow) → length turns ≤ i → length turns ≡ length given →
-        Guarantee kinds station manual start room completed held (take i given) (take i turns) first after is → Guarantee kinds station manual start room completed held given turns first after is
-    walk_ends completed held given turns i after is le long w =
-        subst (λ (x : List Turn). Guarantee kinds station manual start room completed held x turns first after is) (take_all i given (omega arith))
-        (subst (λ (x : List Turn). Guarantee kinds station manual start room completed held (take i given) x first after is) (take_all i turns le) w)
+    pub guarantee_begins : (before : Book) → BookKept kinds station manual start room before first →
+        Guarantee kinds station manual start room (is_completed before) (held_of before) [] [] first before first
+    guarantee_begins before k = record {
+      calls_are_those_given = refl;
+      each_turn_kept = tt;
+      rows_only_grow = omega arith;
+      rows_held_before_stay = ([], sym (append-nil (held_rows first (held_of before))));
+      rows_past_the_held_are_as_they_were = refl;
+      ends_with_the_last = (refl, refl);
+      book_kept = k;
+    }

@@ -1,5 +1,5 @@
 -- What a search has tried so far.
-use Rattle.std.specs.Prelude.{◌≡◌, ℕ, ◌<◌, ◌≤◌, Bool, true, false, List, length, take, drop, Some, Ok, Option}
+use Rattle.std.specs.Prelude.{◌≡◌, ℕ, ◌<◌, ◌≤◌, Bool, true, false, List, length, take, drop, Some, Ok, Err, Option, Result}
 use Rattle.ordered.specs.Laws.{In}
 use Rattle.profile.specs.declared.Kind.{Kind}
 use Rattle.profile.specs.declared.Rule.{Rule}
@@ -13,7 +13,7 @@ use Rattle.game.specs.Computed.{called_for}
 use Rattle.book.specs.declared.Refusal.{Refusal}
 use Rattle.book.specs.declared.Refusal.TheVariants.{NoSuchAttack, HeadNotCalledFor, TooManyMembers, RowAlreadyHeld, NoRowFree, RowNotHeld, RowsDoNotJoin, RowsDoNotFit}
 use Rattle.book.specs.declared.reply.Side.{Side}
-use Rattle.book.specs.declared.search.Progress.{Progress}
+use Rattle.book.specs.declared.search.Unfit.{Unfit}
 use Rattle.book.specs.Offers.{said, row_at, Attempt, attempt, line_row, line_called}
 use Rattle.book.specs.Sides.{side_number}
 use Rattle.book.specs.Searches.{Grown, Stuck}
@@ -75,11 +75,18 @@ stuck_by RowsDoNotJoin = false
 stuck_by RowsDoNotFit = false
 
 module _ (kinds : ℕ → Option Kind) (station manual : List (Option Rule)) (start : Head) where
-  -- A part of the search, from n rows in `was`: it went on and did what it is for, or it got stuck.
-  pub record Stepped (room n : ℕ) (was : List Row) (done : List AttackRow → Type 0) (p : Progress) (is : List Row) : Type 0 where
-    pub went : Went kinds station manual start room n was p.count is
-    pub goal : p.stuck ≡ false → done (said (take p.count is))
-    pub stuck : p.stuck ≡ true → Stuck kinds station manual start room (take p.count is)
+  -- A part of the search, from n rows in `was`: it went on to m rows and did what it is for, or it got stuck at m rows.
+  pub record WentOn (room n : ℕ) (was : List Row) (done : List AttackRow → Type 0) (m : ℕ) (is : List Row) : Type 0 where
+    pub went : Went kinds station manual start room n was m is
+    pub goal : done (said (take m is))
+
+  pub record GotStuck (room n : ℕ) (was : List Row) (m : ℕ) (is : List Row) : Type 0 where
+    pub went : Went kinds station manual start room n was m is
+    pub stuck : Stuck kinds station manual start room (take m is)
+
+  abbrev pub Stepped : ℕ → ℕ → List Row → (List AttackRow → Type 0) → Result ℕ Unfit → List Row → Type 0
+  Stepped room n was done (Ok m) is = WentOn room n was done m is
+  Stepped room n was done (Err u) is = GotStuck room n was u.held is
 
   -- what the parts of the search are for: a line that is called for is tried
   abbrev pub line_tried : List AttackRow → Line → List AttackRow → Type 0

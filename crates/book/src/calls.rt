@@ -8,10 +8,10 @@ ghost use Rattle.game.specs.Rows.{head_of_starts};
 ghost use Rattle.book.specs.Drafts.{empty_draft, draft_offer, told, rows_after, draft_after, draft_answer, verdict_of};
 
 use crate::Refusal;
-use crate::held::{has_room, held_of, tell_refuted};
-use crate::making::{offer_enter, offer_join};
+use crate::held::{held_of, tell_refuted};
+use crate::making::{HeldRows, Sides};
 use crate::state::{Completed, Draft};
-use game::{Head, Pair, Row};
+use game::{Head, Line, Pair, Row};
 use profile::Profile;
 
 // What a draft answers.
@@ -21,7 +21,7 @@ pub enum Asked {
     Undecided,
 }
 
-// What a completed book answers.
+// What a completed book answers: a type of its own, so that a draft cannot say that the station refines.
 #[derive(Clone, Copy, PartialEq, Eq, Debug)]
 pub enum Verdict {
     Refuted,
@@ -77,21 +77,19 @@ impl Draft {
         ensures lent { rows.new ≡ rows_after self.old rows.old (Enter side slot state symbol) (draft_offer event_kind (S.Profile.rules station.now) (M.Profile.rules manual.now) self.old rows.old (Enter side slot state symbol)) }
         ensures draft { self.new ≡ draft_after self.old (draft_offer event_kind (S.Profile.rules station.now) (M.Profile.rules manual.now) self.old rows.old (Enter side slot state symbol)) }
     {
-        let free = has_room(rows, self.held);
-        match offer_enter(
+        let sides = Sides {
             station,
             manual,
-            self.start,
-            held_of(rows, self.held),
-            free,
+            start: self.start,
+        };
+        let line = Line::Enter {
             side,
             slot,
             state,
             symbol,
-        ) {
-            Ok(row) => Ok(self.append(rows, row)),
-            Err(why) => Err(why),
-        }
+        };
+        let row = sides.offer(HeldRows::of(rows, self.held), line)?;
+        Ok(self.append(rows, row))
     }
 
     // A join of two held rows: the number of the row that is appended, or a refusal. It needs no profile.
@@ -100,11 +98,8 @@ impl Draft {
         ensures lent { (s m : List (Option Rule)) → rows.new ≡ rows_after self.old rows.old (Join i j) (draft_offer event_kind s m self.old rows.old (Join i j)) }
         ensures draft { (s m : List (Option Rule)) → self.new ≡ draft_after self.old (draft_offer event_kind s m self.old rows.old (Join i j)) }
     {
-        let free = has_room(rows, self.held);
-        match offer_join(self.start, held_of(rows, self.held), free, i, j) {
-            Ok(row) => Ok(self.append(rows, row)),
-            Err(why) => Err(why),
-        }
+        let row = HeldRows::of(rows, self.held).offer_join(i, j)?;
+        Ok(self.append(rows, row))
     }
 
     // Whether the held rows say that the starts are refuted. If not, a draft leaves it open.

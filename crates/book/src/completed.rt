@@ -4,7 +4,7 @@ ghost use Rattle.std.specs.Prelude.{◌≡◌};
 use crate::state::Completed;
 
 impl Completed {
-    // How many rows the completed book holds.
+    // How many rows the completed book holds. As short as for a draft: a trait for both would say no more.
     pub fn held(&self) -> usize
         ensures { result ≡ self.now.held }
     {

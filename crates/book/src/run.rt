@@ -61,16 +61,6 @@ pub enum Book {
     Completed(Completed),
 }
 
-// How many rows a book holds.
-fn held_in(book: &Book) -> usize
-    ensures { result ≡ held_of book.now }
-{
-    match book {
-        Book::Draft(draft) => draft.held,
-        Book::Completed(done) => done.held,
-    }
-}
-
 impl Turn {
     // A call that is still to be made.
     pub fn new(call: Call) -> Turn
@@ -89,41 +79,50 @@ impl Book {
     pub fn held(&self) -> usize
         ensures { result ≡ held_of self.now }
     {
-        held_in(self)
+        match self {
+            Book::Draft(draft) => draft.held,
+            Book::Completed(done) => done.held,
+        }
     }
 }
 
 // The answer to an offered line.
-fn answer_line(told: Result<usize, Refusal>) -> Answer
-    ensures { result ≡ line_answer told }
-{
-    match told {
-        Ok(number) => Answer::Row(number),
-        Err(why) => Answer::Refused(why),
+impl From<Result<usize, Refusal>> for Answer {
+    ghost from_gives = { λ told answer. answer ≡ line_answer told };
+
+    fn from(told: Result<usize, Refusal>) -> Answer {
+        match told {
+            Ok(number) => Answer::Row(number),
+            Err(why) => Answer::Refused(why),
+        }
     }
 }
 
-fn answer_ask(asked: Asked) -> Answer
-    ensures { result ≡ ask_answer asked }
-{
-    match asked {
-        Asked::Refuted => Answer::Refuted,
-        Asked::Undecided => Answer::Undecided,
+impl From<Asked> for Answer {
+    ghost from_gives = { λ asked answer. answer ≡ ask_answer asked };
+
+    fn from(asked: Asked) -> Answer {
+        match asked {
+            Asked::Refuted => Answer::Refuted,
+            Asked::Undecided => Answer::Undecided,
+        }
     }
 }
 
-fn answer_verdict(verdict: Verdict) -> Answer
-    ensures { result ≡ verdict_answer verdict }
-{
-    match verdict {
-        Verdict::Refuted => Answer::Refuted,
-        Verdict::Refines => Answer::Refines,
+impl From<Verdict> for Answer {
+    ghost from_gives = { λ verdict answer. answer ≡ verdict_answer verdict };
+
+    fn from(verdict: Verdict) -> Answer {
+        match verdict {
+            Verdict::Refuted => Answer::Refuted,
+            Verdict::Refines => Answer::Refines,
+        }
     }
 }
 
-// A call on a draft.
+// A call on a draft. The two profiles are named one by one here, as in the calls of a draft.
 fn step_draft<S: Profile, M: Profile>(
-    draft: Draft,
+    mut draft: Draft,
     station: &S,
     manual: &M,
     rows: &mut [Row],
@@ -131,7 +130,6 @@ fn step_draft<S: Profile, M: Profile>(
 ) -> (Book, Answer)
     ensures { StepsDraft event_kind (S.Profile.rules station.now) (M.Profile.rules manual.now) draft rows.old call rows.new result.0 result.1 }
 {
-    let mut draft = draft;
     match call {
         Call::Enter {
             side,
@@ -140,11 +138,11 @@ fn step_draft<S: Profile, M: Profile>(
             symbol,
         } => {
             let told = draft.enter(station, manual, rows, side, slot, state, symbol);
-            (Book::Draft(draft), answer_line(told))
+            (Book::Draft(draft), told.into())
         }
         Call::Join { first, second } => {
             let told = draft.join(rows, first, second);
-            (Book::Draft(draft), answer_line(told))
+            (Book::Draft(draft), told.into())
         }
         Call::Search => match draft.search(station, manual, rows) {
             Ok(done) => {
@@ -155,7 +153,7 @@ fn step_draft<S: Profile, M: Profile>(
         },
         Call::Ask => {
             let asked = draft.ask(rows);
-            (Book::Draft(draft), answer_ask(asked))
+            (Book::Draft(draft), asked.into())
         }
         Call::Verdict => (Book::Draft(draft), Answer::NotOffered),
     }
@@ -168,17 +166,14 @@ fn step_completed(done: Completed, rows: &[Row], call: Call) -> (Book, Answer)
     match call {
         Call::Verdict => {
             let verdict = done.verdict(rows);
-            (Book::Completed(done), answer_verdict(verdict))
+            (Book::Completed(done), verdict.into())
         }
-        Call::Enter { .. } => (Book::Completed(done), Answer::NotOffered),
-        Call::Join { .. } => (Book::Completed(done), Answer::NotOffered),
-        Call::Search => (Book::Completed(done), Answer::NotOffered),
-        Call::Ask => (Book::Completed(done), Answer::NotOffered),
+        _ => (Book::Completed(done), Answer::NotOffered),
     }
 }
 
 // A call on a book: the book after it, and the answer.
-pub(crate) fn step<S: Profile, M: Profile>(
+fn step<S: Profile, M: Profile>(
     book: Book,
     station: &S,
     manual: &M,
@@ -194,8 +189,8 @@ pub(crate) fn step<S: Profile, M: Profile>(
 }
 
 // Gives a book to each call in turn, writes the answers in place, and gives the book at the end.
-pub(crate) fn drive<S: Profile, M: Profile>(
-    book: Book,
+fn drive<S: Profile, M: Profile>(
+    mut book: Book,
     station: &S,
     manual: &M,
     rows: &mut [Row],
@@ -205,13 +200,10 @@ pub(crate) fn drive<S: Profile, M: Profile>(
     ensures kept { Guarantee event_kind (S.Profile.rules station.now) (M.Profile.rules manual.now) (head_of_starts (S.Profile.origin station.now) (M.Profile.origin manual.now)) (usable rows.old) (is_completed book) (held_of book) turns.old turns.new rows.old result rows.new }
     ensures by_contract { GuaranteeByContract event_kind (S.Profile.rules station.now) (M.Profile.rules manual.now) (head_of_starts (S.Profile.origin station.now) (M.Profile.origin manual.now)) (usable rows.old) (is_completed book) (held_of book) turns.old turns.new rows.old result rows.new }
 {
-    let mut book = book;
-    let all = turns.len();
-    for i in 0..all {
-        let call = turns[i].call;
-        let (next, answer) = step(book, station, manual, rows, call);
-        let held = held_in(&next);
-        turns[i] = Turn { call, answer, held };
+    for turn in turns.iter_mut() {
+        let (next, answer) = step(book, station, manual, rows, turn.call);
+        turn.answer = answer;
+        turn.held = next.held();
         book = next;
     }
     book

@@ -10,75 +10,34 @@ ghost use Rattle.book.specs.Deciding.{OwnRows, DecidesRightly};
 ghost use Rattle.book.specs.Trying.{stuck_by, Stepped, line_tried, slot_tried, side_tried, head_tried, new_tried, top_tried, tops_tried, pair_tried, all_tried};
 
 use crate::Refusal;
-use crate::held::{has_room, is_called_for};
-use crate::making::offer_line;
+use crate::held::is_called_for;
+use crate::making::{HeldRows, Sides};
 use crate::reply::Side;
 use crate::state::{Completed, Draft};
 use game::{Head, Line, Row};
 use profile::{Profile, Rule};
 
-// How many rows are held, and whether a row that is missing cannot be appended.
-#[derive(Clone, Copy)]
-pub(crate) struct Progress {
-    pub(crate) count: usize,
-    pub(crate) stuck: bool,
+// A row is missing that cannot be appended, and so many rows are held.
+#[derive(Clone, Copy, PartialEq, Eq, Debug)]
+pub(crate) struct Unfit {
+    pub(crate) held: usize,
 }
 
 // Whether a refusal says that a row is missing that cannot be appended.
 fn is_stuck(why: Refusal) -> bool
     ensures { result ≡ stuck_by why }
 {
-    match why {
-        Refusal::TooManyMembers => true,
-        Refusal::NoRowFree => true,
-        Refusal::NoSuchAttack => false,
-        Refusal::HeadNotCalledFor => false,
-        Refusal::RowAlreadyHeld => false,
-        Refusal::RowNotHeld => false,
-        Refusal::RowsDoNotJoin => false,
-        Refusal::RowsDoNotFit => false,
-    }
-}
-
-// Tries a line: the row that it makes is appended where it is new.
-fn try_line<S: Profile, M: Profile>(
-    station: &S,
-    manual: &M,
-    start: Head,
-    rows: &mut [Row],
-    count: usize,
-    line: Line,
-) -> Progress
-    requires { count ≤ usable rows.old }
-    ensures { Stepped event_kind (S.Profile.rules station.now) (M.Profile.rules manual.now) start (usable rows.old) count rows.old (line_tried event_kind (S.Profile.rules station.now) (M.Profile.rules manual.now) start (said (take count rows.old)) line) result rows.new }
-{
-    let free = has_room(rows, count);
-    match offer_line(station, manual, start, &rows[0..count], free, line) {
-        Ok(row) => {
-            rows[count] = row;
-            Progress {
-                count: count + 1,
-                stuck: false,
-            }
-        }
-        Err(why) => Progress {
-            count,
-            stuck: is_stuck(why),
-        },
-    }
+    matches!(why, Refusal::TooManyMembers | Refusal::NoRowFree)
 }
 
 // Whether a slot of a side has a rule for that side's state and symbol in a head.
 fn has_rule_at(side: Side, slot: Option<Rule>, head: Head) -> bool
     ensures { result ≡ rule_at side slot head }
 {
-    let Some(rule) = slot else {
-        return false;
-    };
-    match side {
+    slot.is_some_and(|rule| match side {
         Side::Station => rule.state == head.states.station && rule.top == head.symbols.station,
         Side::Manual => rule.state == head.states.manual && rule.top == head.symbols.manual,
-    }
+    })
 }
 
 // The enter from a slot of a side at a head.
@@ -90,252 +49,205 @@ fn enter_line(side: Side, slot: usize, head: Head) -> Line
         Side::Station => Line::Enter {
             side: 0,
             slot,
-            state: head.states.manual as usize,
-            symbol: head.symbols.manual as usize,
+            state: usize::from(head.states.manual),
+            symbol: usize::from(head.symbols.manual),
         },
         Side::Manual => Line::Enter {
             side: 1,
             slot,
-            state: head.states.station as usize,
-            symbol: head.symbols.station as usize,
+            state: usize::from(head.states.station),
+            symbol: usize::from(head.symbols.station),
         },
     }
 }
 
-// How many slots a side has.
-fn slots_on<S: Profile, M: Profile>(station: &S, manual: &M, side: Side) -> usize
-    ensures { result ≡ length (slots_of (S.Profile.rules station.now) (M.Profile.rules manual.now) side) }
-{
-    match side {
-        Side::Station => station.slots(),
-        Side::Manual => manual.slots(),
-    }
-}
-
-// What a slot of a side holds.
-fn slot_on<S: Profile, M: Profile>(station: &S, manual: &M, side: Side, slot: usize) -> Option<Rule>
-    ensures { result ≡ slice_index_or (slots_of (S.Profile.rules station.now) (M.Profile.rules manual.now) side) slot None }
-{
-    match side {
-        Side::Station => station.slot(slot),
-        Side::Manual => manual.slot(slot),
-    }
-}
-
-// Tries the enter from one slot of a side at a head.
-fn try_slot<S: Profile, M: Profile>(
-    station: &S,
-    manual: &M,
-    start: Head,
-    rows: &mut [Row],
-    count: usize,
-    head: Head,
-    side: Side,
-    slot: usize,
-) -> Progress
-    requires { count ≤ usable rows.old }
-    ensures { Stepped event_kind (S.Profile.rules station.now) (M.Profile.rules manual.now) start (usable rows.old) count rows.old (slot_tried event_kind (S.Profile.rules station.now) (M.Profile.rules manual.now) start (said (take count rows.old)) side slot head) result rows.new }
-{
-    if has_rule_at(side, slot_on(station, manual, side, slot), head) {
-        let line = enter_line(side, slot, head);
-        try_line(station, manual, start, rows, count, line)
-    } else {
-        Progress {
-            count,
-            stuck: false,
+// The steps tell how many rows are held after them, where they were not stopped by a missing row. Rows and count stand side by
+// side, since the rows are lent by the caller.
+impl<'a, S: Profile, M: Profile> Sides<'a, S, M> {
+    // How many slots a side has.
+    fn slots(&self, side: Side) -> usize
+        ensures { result ≡ length (slots_of (S.Profile.rules self.now.station.now) (M.Profile.rules self.now.manual.now) side) }
+    {
+        match side {
+            Side::Station => self.station.slots(),
+            Side::Manual => self.manual.slots(),
         }
     }
-}
 
-// Tries the enters from every slot of a side at a head.
-fn try_side<S: Profile, M: Profile>(
-    station: &S,
-    manual: &M,
-    start: Head,
-    rows: &mut [Row],
-    count: usize,
-    head: Head,
-    side: Side,
-) -> Progress
-    requires { count ≤ usable rows.old }
-    ensures { Stepped event_kind (S.Profile.rules station.now) (M.Profile.rules manual.now) start (usable rows.old) count rows.old (side_tried event_kind (S.Profile.rules station.now) (M.Profile.rules manual.now) start (said (take count rows.old)) side (length (slots_of (S.Profile.rules station.now) (M.Profile.rules manual.now) side)) head) result rows.new }
-{
-    let all = slots_on(station, manual, side);
-    let mut progress = Progress {
-        count,
-        stuck: false,
-    };
-    for i in 0..all {
-        progress = try_slot(station, manual, start, rows, progress.count, head, side, i);
-        if progress.stuck {
-            return progress;
+    // What a slot of a side holds.
+    fn slot(&self, side: Side, slot: usize) -> Option<Rule>
+        ensures { result ≡ slice_index_or (slots_of (S.Profile.rules self.now.station.now) (M.Profile.rules self.now.manual.now) side) slot None }
+    {
+        match side {
+            Side::Station => self.station.slot(slot),
+            Side::Manual => self.manual.slot(slot),
         }
     }
-    progress
-}
 
-// Tries every enter at a head.
-fn try_head<S: Profile, M: Profile>(
-    station: &S,
-    manual: &M,
-    start: Head,
-    rows: &mut [Row],
-    count: usize,
-    head: Head,
-) -> Progress
-    requires { count ≤ usable rows.old }
-    ensures { Stepped event_kind (S.Profile.rules station.now) (M.Profile.rules manual.now) start (usable rows.old) count rows.old (head_tried event_kind (S.Profile.rules station.now) (M.Profile.rules manual.now) start (said (take count rows.old)) head) result rows.new }
-{
-    let first = try_side(station, manual, start, rows, count, head, Side::Station);
-    if first.stuck {
-        return first;
-    }
-    try_side(
-        station,
-        manual,
-        start,
-        rows,
-        first.count,
-        head,
-        Side::Manual,
-    )
-}
-
-// Tries every enter at a head, unless the starts or one of the rows that are done with called for it.
-fn try_new_head<S: Profile, M: Profile>(
-    station: &S,
-    manual: &M,
-    start: Head,
-    rows: &mut [Row],
-    count: usize,
-    done: usize,
-    head: Head,
-) -> Progress
-    requires { (count ≤ usable rows.old) × (done ≤ count) }
-    ensures { Stepped event_kind (S.Profile.rules station.now) (M.Profile.rules manual.now) start (usable rows.old) count rows.old (new_tried event_kind (S.Profile.rules station.now) (M.Profile.rules manual.now) start (said (take count rows.old)) done head) result rows.new }
-{
-    if is_called_for(start, &rows[0..done], head) {
-        Progress {
-            count,
-            stuck: false,
-        }
-    } else {
-        try_head(station, manual, start, rows, count, head)
-    }
-}
-
-// Tries every enter at a top, if there is one.
-fn try_top<S: Profile, M: Profile>(
-    station: &S,
-    manual: &M,
-    start: Head,
-    rows: &mut [Row],
-    count: usize,
-    done: usize,
-    top: Option<Head>,
-) -> Progress
-    requires { (count ≤ usable rows.old) × (done ≤ count) }
-    ensures { Stepped event_kind (S.Profile.rules station.now) (M.Profile.rules manual.now) start (usable rows.old) count rows.old (top_tried event_kind (S.Profile.rules station.now) (M.Profile.rules manual.now) start (said (take count rows.old)) done top) result rows.new }
-{
-    match top {
-        Some(head) => try_new_head(station, manual, start, rows, count, done, head),
-        None => Progress {
-            count,
-            stuck: false,
-        },
-    }
-}
-
-// Tries every enter at the tops of the members of a row.
-fn try_tops<S: Profile, M: Profile>(
-    station: &S,
-    manual: &M,
-    start: Head,
-    rows: &mut [Row],
-    count: usize,
-    done: usize,
-    row: Row,
-) -> Progress
-    requires { (count ≤ usable rows.old) × (done ≤ count) }
-    ensures { Stepped event_kind (S.Profile.rules station.now) (M.Profile.rules manual.now) start (usable rows.old) count rows.old (tops_tried event_kind (S.Profile.rules station.now) (M.Profile.rules manual.now) start (said (take count rows.old)) done (row_of row)) result rows.new }
-{
-    let members = row.members();
-    let mut progress = Progress {
-        count,
-        stuck: false,
-    };
-    for m in members {
-        progress = try_top(station, manual, start, rows, progress.count, done, m.top());
-        if progress.stuck {
-            return progress;
-        }
-    }
-    progress
-}
-
-// Tries the joins of two rows, both ways round. A row has one join with itself.
-fn try_pair<S: Profile, M: Profile>(
-    station: &S,
-    manual: &M,
-    start: Head,
-    rows: &mut [Row],
-    count: usize,
-    k: usize,
-    j: usize,
-) -> Progress
-    requires { count ≤ usable rows.old }
-    ensures { Stepped event_kind (S.Profile.rules station.now) (M.Profile.rules manual.now) start (usable rows.old) count rows.old (pair_tried event_kind (S.Profile.rules station.now) (M.Profile.rules manual.now) start (said (take count rows.old)) k j) result rows.new }
-{
-    let there = Line::Join {
-        first: k,
-        second: j,
-    };
-    let back = Line::Join {
-        first: j,
-        second: k,
-    };
-    let first = try_line(station, manual, start, rows, count, there);
-    if first.stuck {
-        return first;
-    }
-    if k == j {
-        return first;
-    }
-    try_line(station, manual, start, rows, first.count, back)
-}
-
-// Appends derivable rows until none is missing, or one that is missing cannot be appended: the enters at the head of
-// the starts, then for each row the enters at the tops of its members and the joins with itself and the rows before it.
-pub(crate) fn close<S: Profile, M: Profile>(
-    station: &S,
-    manual: &M,
-    start: Head,
-    rows: &mut [Row],
-    count: usize,
-) -> Progress
-    requires { count ≤ usable rows.old }
-    ensures { Stepped event_kind (S.Profile.rules station.now) (M.Profile.rules manual.now) start (usable rows.old) count rows.old (all_tried event_kind (S.Profile.rules station.now) (M.Profile.rules manual.now) start) result rows.new }
-{
-    let mut progress = try_head(station, manual, start, rows, count, start);
-    if progress.stuck {
-        return progress;
-    }
-    let mut k = 0;
-    'search: while k < progress.count {
-        let row = rows[k];
-        progress = try_tops(station, manual, start, rows, progress.count, k, row);
-        if progress.stuck {
-            break 'search;
-        }
-        for j in 0..k + 1 {
-            progress = try_pair(station, manual, start, rows, progress.count, k, j);
-            if progress.stuck {
-                break 'search;
+    // Tries a line: the row that it makes is appended where it is new.
+    fn try_line(&self, rows: &mut [Row], count: usize, line: Line) -> Result<usize, Unfit>
+        requires { count ≤ usable rows.old }
+        ensures { let s = S.Profile.rules self.now.station.now in let m = M.Profile.rules self.now.manual.now in Stepped event_kind s m self.now.start (usable rows.old) count rows.old (line_tried event_kind s m self.now.start (said (take count rows.old)) line) result rows.new }
+    {
+        match self.offer(HeldRows::of(rows, count), line) {
+            Ok(row) => {
+                rows[count] = row;
+                Ok(count + 1)
             }
+            Err(why) if is_stuck(why) => Err(Unfit { held: count }),
+            Err(_) => Ok(count),
         }
-        k += 1;
     }
-    progress
+
+    // Tries the enter from one slot of a side at a head.
+    fn try_slot(
+        &self,
+        rows: &mut [Row],
+        count: usize,
+        head: Head,
+        side: Side,
+        slot: usize,
+    ) -> Result<usize, Unfit>
+        requires { count ≤ usable rows.old }
+        ensures { let s = S.Profile.rules self.now.station.now in let m = M.Profile.rules self.now.manual.now in Stepped event_kind s m self.now.start (usable rows.old) count rows.old (slot_tried event_kind s m self.now.start (said (take count rows.old)) side slot head) result rows.new }
+    {
+        if has_rule_at(side, self.slot(side, slot), head) {
+            self.try_line(rows, count, enter_line(side, slot, head))
+        } else {
+            Ok(count)
+        }
+    }
+
+    // Tries the enters from every slot of a side at a head.
+    fn try_side(
+        &self,
+        rows: &mut [Row],
+        count: usize,
+        head: Head,
+        side: Side,
+    ) -> Result<usize, Unfit>
+        requires { count ≤ usable rows.old }
+        ensures { let s = S.Profile.rules self.now.station.now in let m = M.Profile.rules self.now.manual.now in Stepped event_kind s m self.now.start (usable rows.old) count rows.old (side_tried event_kind s m self.now.start (said (take count rows.old)) side (length (slots_of s m side)) head) result rows.new }
+    {
+        let mut held = count;
+        // By number: a profile is asked slot by slot.
+        for i in 0..self.slots(side) {
+            held = self.try_slot(rows, held, head, side, i)?;
+        }
+        Ok(held)
+    }
+
+    // Tries every enter at a head.
+    fn try_head(&self, rows: &mut [Row], count: usize, head: Head) -> Result<usize, Unfit>
+        requires { count ≤ usable rows.old }
+        ensures { let s = S.Profile.rules self.now.station.now in let m = M.Profile.rules self.now.manual.now in Stepped event_kind s m self.now.start (usable rows.old) count rows.old (head_tried event_kind s m self.now.start (said (take count rows.old)) head) result rows.new }
+    {
+        let held = self.try_side(rows, count, head, Side::Station)?;
+        self.try_side(rows, held, head, Side::Manual)
+    }
+
+    // Tries every enter at a head, unless the starts or one of the rows that are done with called for it.
+    fn try_new_head(
+        &self,
+        rows: &mut [Row],
+        count: usize,
+        done: usize,
+        head: Head,
+    ) -> Result<usize, Unfit>
+        requires { (count ≤ usable rows.old) × (done ≤ count) }
+        ensures { let s = S.Profile.rules self.now.station.now in let m = M.Profile.rules self.now.manual.now in Stepped event_kind s m self.now.start (usable rows.old) count rows.old (new_tried event_kind s m self.now.start (said (take count rows.old)) done head) result rows.new }
+    {
+        if is_called_for(self.start, &rows[..done], head) {
+            Ok(count)
+        } else {
+            self.try_head(rows, count, head)
+        }
+    }
+
+    // Tries every enter at a top, if there is one.
+    fn try_top(
+        &self,
+        rows: &mut [Row],
+        count: usize,
+        done: usize,
+        top: Option<Head>,
+    ) -> Result<usize, Unfit>
+        requires { (count ≤ usable rows.old) × (done ≤ count) }
+        ensures { let s = S.Profile.rules self.now.station.now in let m = M.Profile.rules self.now.manual.now in Stepped event_kind s m self.now.start (usable rows.old) count rows.old (top_tried event_kind s m self.now.start (said (take count rows.old)) done top) result rows.new }
+    {
+        match top {
+            Some(head) => self.try_new_head(rows, count, done, head),
+            None => Ok(count),
+        }
+    }
+
+    // Tries every enter at the tops of the members of a row.
+    fn try_tops(
+        &self,
+        rows: &mut [Row],
+        count: usize,
+        done: usize,
+        row: Row,
+    ) -> Result<usize, Unfit>
+        requires { (count ≤ usable rows.old) × (done ≤ count) }
+        ensures { let s = S.Profile.rules self.now.station.now in let m = M.Profile.rules self.now.manual.now in Stepped event_kind s m self.now.start (usable rows.old) count rows.old (tops_tried event_kind s m self.now.start (said (take count rows.old)) done (row_of row)) result rows.new }
+    {
+        let members = row.members();
+        let mut held = count;
+        for m in members {
+            held = self.try_top(rows, held, done, m.top())?;
+        }
+        Ok(held)
+    }
+
+    // Tries the joins of two rows, both ways round. A row has one join with itself.
+    fn try_pair(&self, rows: &mut [Row], count: usize, k: usize, j: usize) -> Result<usize, Unfit>
+        requires { count ≤ usable rows.old }
+        ensures { let s = S.Profile.rules self.now.station.now in let m = M.Profile.rules self.now.manual.now in Stepped event_kind s m self.now.start (usable rows.old) count rows.old (pair_tried event_kind s m self.now.start (said (take count rows.old)) k j) result rows.new }
+    {
+        let there = Line::Join {
+            first: k,
+            second: j,
+        };
+        let back = Line::Join {
+            first: j,
+            second: k,
+        };
+        let held = self.try_line(rows, count, there)?;
+        if k == j {
+            Ok(held)
+        } else {
+            self.try_line(rows, held, back)
+        }
+    }
+
+    // Appends derivable rows until none is missing, or one that is missing cannot be appended: the enters at the head of
+    // the starts, then for each row the enters at the tops of its members and the joins with itself and the rows before it.
+    fn close(&self, rows: &mut [Row], count: usize) -> Result<usize, Unfit>
+        requires { count ≤ usable rows.old }
+        ensures { let s = S.Profile.rules self.now.station.now in let m = M.Profile.rules self.now.manual.now in Stepped event_kind s m self.now.start (usable rows.old) count rows.old (all_tried event_kind s m self.now.start) result rows.new }
+    {
+        let mut held = self.try_head(rows, count, self.start)?;
+        // By number: rows are appended while the loop runs, so no range and no slice has its end.
+        let mut k = 0;
+        'search: {
+            while k < held {
+                let row = rows[k];
+                held = match self.try_tops(rows, held, k, row) {
+                    Ok(more) => more,
+                    Err(unfit) => break 'search Err(unfit),
+                };
+                for j in 0..=k {
+                    held = match self.try_pair(rows, held, k, j) {
+                        Ok(more) => more,
+                        Err(unfit) => break 'search Err(unfit),
+                    };
+                }
+                k += 1;
+            }
+            Ok(held)
+        }
+    }
 }
 
 impl Draft {
@@ -352,14 +264,24 @@ impl Draft {
         ensures decides { self.start ≡ head_of_starts (S.Profile.origin station.now) (M.Profile.origin manual.now) → OwnRows event_kind (S.Profile.rules station.now) (M.Profile.rules manual.now) self rows.old → DecidesRightly event_kind (S.Profile.rules station.now) (M.Profile.rules manual.now) self rows.old rows.new result }
     {
         let start = self.start;
+        let sides = Sides {
+            station,
+            manual,
+            start,
+        };
         let most = rows.len().min(1024);
-        let count = self.held.min(most);
-        let progress = close(station, manual, start, rows, count);
-        let held = self.held.max(progress.count);
-        if progress.stuck {
-            Err((Draft { start, held }, Refusal::RowsDoNotFit))
-        } else {
-            Ok(Completed { start, held })
+        match sides.close(rows, self.held.min(most)) {
+            Ok(count) => Ok(Completed {
+                start,
+                held: self.held.max(count),
+            }),
+            Err(unfit) => Err((
+                Draft {
+                    start,
+                    held: self.held.max(unfit.held),
+                },
+                Refusal::RowsDoNotFit,
+            )),
         }
     }
 }

@@ -11,7 +11,7 @@ pub struct Draft {
 }
 
 // A book that a search has completed: the same numbers, where nothing was missing from the rows lent to the search. It
-// cannot be copied either, and nothing can be entered in it.
+// cannot be copied either. It is a type of its own, so that nothing can be entered in it and no draft gives a verdict.
 #[derive(Drop)]
 pub struct Completed {
     pub(crate) start: Head,

@@ -1,0 +1,11 @@
+use Rattle.std.proofs.Common.{take}
+use Rattle.profile.specs.Kinds.{event_kind}
+use Rattle.book.specs.Offers.{usable, said}
+use Rattle.book.specs.Trying.{WentOn, members_tried}
+use Rattle.book.proofs.making.Sides.try_tops.Given as goal
+
+abbrev pub invariant-loop-m : goal.invariant-loop-m
+invariant-loop-m g l =
+    let s = g.S.Profile.rules l.self.station.now in
+    let m = g.M.Profile.rules l.self.manual.now in
+    WentOn event_kind s m l.self.start (usable l.initial.rows) l.count l.initial.rows (members_tried event_kind s m l.self.start (said (take l.count l.initial.rows)) l.done l.members (take l.m-index l.members)) l.held l.rows
