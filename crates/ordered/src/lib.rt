@@ -12,7 +12,8 @@ mod held;
 
 pub use held::Held;
 
-// Elements that are ordered by a key, which may be less than the whole element.
+// Elements that are ordered by a key, which may be less than the whole element. The order is a test of its own and not
+// an Ord: two keys, each at most the other, are the same key, which Ord does not say.
 pub trait Keyed {
     // What elements are ordered by.
     type Key;

@@ -1,8 +1,8 @@
 -- The law of a rule and its test say the same; a table's law follows from what its type keeps.
-use Rattle.std.specs.Prelude.{◌≡◌, ℕ, zero, suc, ◌<◌, ◌≤◌, Bool, true, false, List, [], ◌∷◌, map, length, Some, None, Ok, Err, Decides, Option, Result, nat_lt, slice_index_or, refl}
+use Rattle.std.specs.Prelude.{◌≡◌, ℕ, zero, suc, ◌+◌, ◌<◌, ◌≤◌, Bool, true, false, List, [], ◌∷◌, map, length, take, Some, None, Ok, Err, Decides, Option, Result, nat_lt, slice_index_or, refl}
 use Rattle.std.proofs.Common.{arith, sym, subst, ◌∙◌, inl, inr}
 use Rattle.std.proofs.lemmas.Bool.{ltb-true, lt-ltb, eqb-true, eq-eqb, and_parts, and_from, both_ways}
-use Rattle.std.proofs.lemmas.List.{get_or_past, length-map}
+use Rattle.std.proofs.lemmas.List.{length-take, length-take-le, get_or_past, length-map}
 use Rattle.ordered.specs.Lex.{lex_le}
 use Rattle.ordered.specs.declared.Unplaced.{Unplaced}
 use Rattle.ordered.specs.declared.Unplaced.TheVariants.{Double, Full}
@@ -79,14 +79,21 @@ still_kept was is r (Ok at) h new few old up = let kept = one_more was is r at h
 still_kept was is r (Err (Double at)) h new few old up = rw h.1 (few, old, up)
 still_kept was is r (Err Full) h new few old up = rw h.1 (few, old, up)
 
-pub table_law : (rules : List Rule) (state symbol : ℕ) → length rules ≤ 96 → all_lawful event_kind rules ≡ true → rules_ascend rules ≡ true → state < 8 → symbol < 16 → LawfulTable rules (state, symbol)
-table_law rules state symbol few law up hs hx = record {
+pub table_law : (rules : List Rule) (start : ℕ × ℕ) → length rules ≤ 96 → all_lawful event_kind rules ≡ true → rules_ascend rules ≡ true → start.0 < 8 → start.1 < 16 → LawfulTable rules start
+table_law rules start few law up hs hx = record {
   few = few;
   lawful = each_lawful event_kind rules law;
   ascending = ascending_from_test rule_le rules up;
   state = hs;
   symbol = hx;
 }
+
+pub room_was_left : (was is : List Rule) (r : Rule) (count at : ℕ) → length was ≡ 96 → length is ≡ 96 → count ≤ 96 → Placed rule_key lex_le r (take count was) (take (count + 1) is) at → count + 1 ≤ 96
+room_was_left was is r count at full kept few p =
+    let a = length-take (count + 1) is in
+    let b = length-take-le count was (omega arith) in
+    let l = p.longer in
+    omega arith
 
 -- the law of a table, read as that of a profile with one rule to a slot
 slots_lawful : (rs : List Rule) → ((r : Rule) → In r rs → LawfulRule event_kind r) → LawfulSlots event_kind (map Some rs)

@@ -17,7 +17,7 @@ abbrev pub table_rules : Table → List Rule
 table_rules t = t.rules
 
 abbrev pub table_start : Table → ℕ × ℕ
-table_start t = (t.state, t.symbol)
+table_start t = t.start
 
 -- why a rule was not placed, as a table tells it
 abbrev pub not_added : Unplaced → NotAdded

@@ -57,7 +57,7 @@ impl Kind {
     }
 }
 
-// The kind of an event, or nothing where there is no such event.
+// The kind of an event, or nothing where there is no such event: that is no fault to tell, so this is no TryFrom.
 pub fn kind_of(event: u8) -> Option<Kind>
     ensures { result ≡ event_kind event }
 {

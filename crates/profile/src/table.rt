@@ -8,15 +8,14 @@ use ordered::Held;
 
 pub mod calls;
 
-// Up to 96 rules and a start.
+// Up to 96 rules, and the state and the symbol that it starts with.
 #[derive(Drop)]
 pub struct Table {
     rules: Held<Rule, 96>,
-    state: u8,
-    symbol: u8,
+    start: (u8, u8),
     ghost few: { length rules ≤ 96 },
     ghost lawful: { all_lawful event_kind rules ≡ true },
     ghost ascending: { rules_ascend rules ≡ true },
-    ghost state_in_range: { state < 8 },
-    ghost symbol_in_range: { symbol < 16 },
+    ghost state_in_range: { start.0 < 8 },
+    ghost symbol_in_range: { start.1 < 16 },
 }

@@ -40,8 +40,7 @@ impl Table {
     {
         Table {
             rules: Held::new(Rule::default()),
-            state: 0,
-            symbol: 0,
+            start: (0, 0),
         }
     }
 
@@ -67,8 +66,7 @@ impl Table {
         if state > 7 || symbol > 15 {
             return Err(OutOfRange);
         }
-        self.state = state;
-        self.symbol = symbol;
+        self.start = (state, symbol);
         Ok(())
     }
 
@@ -86,7 +84,7 @@ impl Profile for Table {
 
     ghost origin = { table_start };
 
-    ghost lawful = { λ t. table_profile_law _ _ (table_law t.rules t.state t.symbol t.few t.lawful t.ascending t.state_in_range t.symbol_in_range) };
+    ghost lawful = { λ t. table_profile_law _ _ (table_law t.rules t.start t.few t.lawful t.ascending t.state_in_range t.symbol_in_range) };
 
     fn slots(&self) -> usize {
         self.rules().len()
@@ -97,6 +95,6 @@ impl Profile for Table {
     }
 
     fn start(&self) -> (u8, u8) {
-        (self.state, self.symbol)
+        self.start
     }
 }
