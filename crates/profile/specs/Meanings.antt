@@ -12,7 +12,7 @@ use Rattle.profile.specs.Opens.{free_rule, open_slot, open_slots, Free, Opened}
 use Rattle.profile.specs.Layers.{bare_rule, bare_slot, bare_slots, Bared, loosen_slot, loosen_slots, Loosened, rename_rule, rename_slot, rename_slots, EventReplaced, SlotReplaced, Renamed}
 use Rattle.profile.specs.Layerings.{slot_mapped}
 
--- what holds of a slot above just when it does of the slot below holds of some slot above just when of some below
+-- from what holds of a slot above and of the slot below it, to what holds of some slot above and of some below
 module _ (f : Option Rule → Option Rule) (P Q : Option Rule → Type 0) where
   some_below : ((s : Option Rule) → P (f s) → Q s) → (slots : List (Option Rule)) → SomeSlot P (map f slots) → SomeSlot Q slots
   some_below at [] h = absurd h

@@ -28,7 +28,7 @@ pub use open_profile::OpenProfile;
 pub use table::Table;
 pub use table::calls::{NotAdded, OutOfRange};
 
-// How binding a rule is: what may happen, or what also must. A must rule counts as a may rule too.
+// How binding a rule is: what may happen, as by default, or what also must. A must rule counts as a may rule too.
 #[derive(Clone, Copy, Default, PartialEq, Eq, Debug)]
 pub enum Mode {
     #[default]

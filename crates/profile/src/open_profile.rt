@@ -3,7 +3,7 @@ ghost use Rattle.std.specs.Prelude.{◌≡◌};
 ghost use Rattle.profile.specs.Opens.{free_rule, open_slots, open_start, Opened};
 ghost use Rattle.profile.specs.OpenSlots.{open_profile_lawful};
 
-use crate::{Mode, Profile, Rule};
+use crate::{Profile, Rule};
 
 #[derive(Clone, Copy, Debug)]
 pub struct OpenProfile {
@@ -33,7 +33,6 @@ fn free_rule(event: u8) -> Rule
     ensures { result ≡ free_rule event }
 {
     Rule {
-        mode: Mode::May,
         event,
         ..Rule::default()
     }
