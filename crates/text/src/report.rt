@@ -11,7 +11,7 @@ use crate::write::{Lent, Told, TooFewBytes, lend};
 use profile::{Profile, Rule, Table};
 use std::{fmt, str};
 
-// A symbol, where the rule lists one.
+// A symbol, where the rule lists one. With a flag: an Option would be made at both calls only to be taken apart here.
 fn put_symbol_if(lent: &mut Lent<'_>, used: bool, symbol: u8)
     requires { lent.old.at ≤ 20200 }
     ensures wrote { Puts lent.old (shown_symbol_if used symbol) lent.new }
