@@ -19,12 +19,10 @@ use Rattle.book.specs.declared.Refusal.TheVariants.{NoSuchAttack, HeadNotCalledF
 use Rattle.book.specs.Offers.{and_then, row_at, Attempt, by_station_rule, by_manual_rule, attempt, row_eq, entered_row, joined_row, join_of, line_row, attempt_called, line_called, offer}
 use Rattle.book.specs.Searches.{Idle}
 use Rattle.book.proofs.Equals.{any_same_means, none_same_means}
+pub use Rattle.book.proofs.Inserting.{ok_same}
 use Rattle.book.proofs.Numbers.{row_at_is_in, slot_is_in}
 
 -- results that are equal, and results that cannot be
-pub ok_same : {T E : Type 0} (x y : T) → ◌≡◌ {A = Result T E} (Ok x) (Ok y) → x ≡ y
-ok_same x y e = cc
-
 pub err_is_not_ok : {T E : Type 0} (x : E) (y : T) → ◌≡◌ {A = Result T E} (Err x) (Ok y) → ⊥
 err_is_not_ok x y e = cc
 

@@ -99,8 +99,7 @@ empty_stacks station manual by_manual r p q t = false≢true t.2
 no_stack : (state : ℕ) (c : Configuration) (x : ℕ) (xs : List ℕ) → at state [] ≡ c → c.stack ≡ x ∷ xs → ⊥
 no_stack state c x xs e f =
     let d : ◌≡◌ {A = List ℕ} [] (x ∷ xs) = ap (λ (y : Configuration). y.stack) e ∙ f in
-    let z : ◌≡◌ {A = ℕ} 0 1 = cc in
-    omega arith
+    cc
 
 pub nothing : NothingComesOfNothing
 nothing = record {

@@ -1,5 +1,5 @@
 -- What is derivable depends only on which may rules and which must rules there are.
-use Rattle.std.proofs.Common.{◌≡◌, ℕ, true, List, [], ◌∷◌, Some, None, Option, sym, refl, ap, ◌∙◌, subst, inl, inr}
+use Rattle.std.proofs.Common.{◌≡◌, ℕ, true, List, [], ◌∷◌, Some, None, Option, sym, refl, ap, ◌∙◌, subst, inl, inr, rules}
 use Rattle.ordered.specs.Laws.{In}
 use Rattle.ordered.proofs.Orders.{same_elements_same_list}
 use Rattle.profile.specs.declared.Mode.TheVariants.{May, Must}
@@ -25,14 +25,7 @@ abbrev bare : Rule → Rule
 bare r = record { mode = May; state = r.state; top = r.top; event = r.event; next = r.next; upper = r.upper; lower = r.lower }
 
 same_bare : (r s : Rule) → rule_key r ≡ rule_key s → bare r ≡ bare s
-same_bare r s e =
-    let a : r.state ≡ s.state = cc in
-    let b : r.top ≡ s.top = cc in
-    let c : r.event ≡ s.event = cc in
-    let d : r.next ≡ s.next = cc in
-    let f : r.upper ≡ s.upper = cc in
-    let g : r.lower ≡ s.lower = cc in
-    λ i. record { mode = May; state = a i; top = b i; event = c i; next = d i; upper = f i; lower = g i }
+same_bare r s e = search rules
 
 bare_pairs : (k : Option Kind) (r s : Rule) → pushed_pairs k (bare r) (bare s) ≡ pushed_pairs k r s
 bare_pairs (Some Open) r s = refl

@@ -1,6 +1,6 @@
 -- The order on members is a total order of whole members, and puts those with more pairs later.
 use Rattle.std.specs.Prelude.{◌≡◌, ℕ, ◌≤◌, true, false, cond, List, ◌∷◌, ◌==◌, nat_lt, refl}
-use Rattle.std.proofs.Common.{arith}
+use Rattle.std.proofs.Common.{rules, arith}
 use Rattle.std.proofs.lemmas.Bool.{cond_both, ltb-true, eqb-true, false≢true}
 use Rattle.ordered.specs.Lex.{lex_le}
 use Rattle.ordered.proofs.Lexes.{lex_reflexive, lex_antisymmetric, lex_transitive, lex_total}
@@ -16,29 +16,19 @@ numbered s x = pair_count x ∷ s.station ∷ s.manual ∷ symbol_numbers x
 
 same_symbols : (s t : Pair) (x y : Pairs) → numbered s x ≡ numbered t y → x ≡ y
 same_symbols s t Zero Zero e = refl
-same_symbols s t Zero (One q) e = let z : ◌≡◌ {A = ℕ} 0 1 = cc in absurd (omega arith)
-same_symbols s t Zero (Two q v) e = let z : ◌≡◌ {A = ℕ} 0 2 = cc in absurd (omega arith)
-same_symbols s t (One p) Zero e = let z : ◌≡◌ {A = ℕ} 1 0 = cc in absurd (omega arith)
-same_symbols s t (One p) (One q) e =
-    let a : p.station ≡ q.station = cc in
-    let b : p.manual ≡ q.manual = cc in
-    λ i. One (record { station = a i; manual = b i })
-same_symbols s t (One p) (Two q v) e = let z : ◌≡◌ {A = ℕ} 1 2 = cc in absurd (omega arith)
-same_symbols s t (Two p u) Zero e = let z : ◌≡◌ {A = ℕ} 2 0 = cc in absurd (omega arith)
-same_symbols s t (Two p u) (One q) e = let z : ◌≡◌ {A = ℕ} 2 1 = cc in absurd (omega arith)
-same_symbols s t (Two p u) (Two q v) e =
-    let a : p.station ≡ q.station = cc in
-    let b : p.manual ≡ q.manual = cc in
-    let c : u.station ≡ v.station = cc in
-    let d : u.manual ≡ v.manual = cc in
-    λ i. Two (record { station = a i; manual = b i }) (record { station = c i; manual = d i })
+same_symbols s t Zero (One q) e = cc
+same_symbols s t Zero (Two q v) e = cc
+same_symbols s t (One p) Zero e = cc
+same_symbols s t (One p) (One q) e = search rules
+same_symbols s t (One p) (Two q v) e = cc
+same_symbols s t (Two p u) Zero e = cc
+same_symbols s t (Two p u) (One q) e = cc
+same_symbols s t (Two p u) (Two q v) e = search rules
 
 pub numbers_tell_the_member : (m n : Member) → member_numbers m ≡ member_numbers n → m ≡ n
 numbers_tell_the_member m n e =
-    let a : m.states.station ≡ n.states.station = cc in
-    let b : m.states.manual ≡ n.states.manual = cc in
     let d : m.symbols ≡ n.symbols = same_symbols m.states n.states m.symbols n.symbols e in
-    λ i. record { states = record { station = a i; manual = b i }; symbols = d i }
+    search rules
 
 pub member_reflexive : (m : Member) → member_le m m ≡ true
 member_reflexive m = lex_reflexive (member_numbers m)
