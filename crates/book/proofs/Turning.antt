@@ -47,7 +47,7 @@ rest_left given turns i d t long inside rest =
     let later : drop (i + 1) turns ≡ drop (i + 1) given = cc in
     drop-set-lt (i + 1) turns i t (omega arith) ∙ later
 
--- what holds of the turns that were given and those that are written, so far and of all
+-- what holds of the turns that were given and those that are written so far
 module _ (P : List Turn → List Turn → Type 0) (given turns : List Turn) (i : ℕ) (long : length turns ≡ length given) where
   pub turn_written : (d t : Turn) → i < length turns → drop i turns ≡ drop i given → (t.call ≡ (get_or turns i d).call) →
       (t.call ≡ (get_or given i d).call → P (take i given ++ get_or given i d ∷ []) (take i turns ++ t ∷ [])) → P (take (i + 1) given) (take (i + 1) (set turns i t))
@@ -57,7 +57,3 @@ module _ (P : List Turn → List Turn → Type 0) (given turns : List Turn) (i :
       let here : get_or turns i d ≡ get_or given i d = cc in
       subst (λ (x : List Turn). P x (take (i + 1) (set turns i t))) (sym (take_more given i d (omega arith)))
       (subst (λ (x : List Turn). P (take i given ++ get_or given i d ∷ []) x) (sym (take_more_set turns i t inside)) (f (asked ∙ ap (λ (x : Turn). x.call) here)))
-
-  pub all_written : length turns ≤ i → P (take i given) (take i turns) → P given turns
-  all_written le w =
-      subst (λ (x : List Turn). P x turns) (take_all i given (omega arith)) (subst (λ (x : List Turn). P (take i given) x) (take_all i turns le) w)

@@ -120,7 +120,8 @@ impl From<Verdict> for Answer {
     }
 }
 
-// A call on a draft. The two profiles are named one by one here, as in the calls of a draft.
+// A call on a draft. The profiles come one by one, here and below: the calls of a draft take them so, and a pair of them would
+// only be taken apart again.
 fn step_draft<S: Profile, M: Profile>(
     mut draft: Draft,
     station: &S,

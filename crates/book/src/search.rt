@@ -61,8 +61,8 @@ fn enter_line(side: Side, slot: usize, head: Head) -> Line
     }
 }
 
-// The steps tell how many rows are held after them, where they were not stopped by a missing row. Rows and count stand side by
-// side, since the rows are lent by the caller.
+// Each step tells how many rows are held after it, unless a row is missing that cannot be appended. Rows and count come side by
+// side, and the count's bound with them: the rows are lent by the caller, so that no value here may keep them.
 impl<'a, S: Profile, M: Profile> Sides<'a, S, M> {
     // How many slots a side has.
     fn slots(&self, side: Side) -> usize
@@ -154,7 +154,8 @@ impl<'a, S: Profile, M: Profile> Sides<'a, S, M> {
         done: usize,
         head: Head,
     ) -> Result<usize, Unfit>
-        requires { (count ≤ usable rows.old) × (done ≤ count) }
+        requires count_in { count ≤ usable rows.old }
+        requires done_in { done ≤ count }
         ensures { let s = S.Profile.rules self.now.station.now in let m = M.Profile.rules self.now.manual.now in Stepped event_kind s m self.now.start (usable rows.old) count rows.old (new_tried event_kind s m self.now.start (said (take count rows.old)) done head) result rows.new }
     {
         if is_called_for(self.start, &rows[..done], head) {
@@ -172,7 +173,8 @@ impl<'a, S: Profile, M: Profile> Sides<'a, S, M> {
         done: usize,
         top: Option<Head>,
     ) -> Result<usize, Unfit>
-        requires { (count ≤ usable rows.old) × (done ≤ count) }
+        requires count_in { count ≤ usable rows.old }
+        requires done_in { done ≤ count }
         ensures { let s = S.Profile.rules self.now.station.now in let m = M.Profile.rules self.now.manual.now in Stepped event_kind s m self.now.start (usable rows.old) count rows.old (top_tried event_kind s m self.now.start (said (take count rows.old)) done top) result rows.new }
     {
         match top {
@@ -189,7 +191,8 @@ impl<'a, S: Profile, M: Profile> Sides<'a, S, M> {
         done: usize,
         row: Row,
     ) -> Result<usize, Unfit>
-        requires { (count ≤ usable rows.old) × (done ≤ count) }
+        requires count_in { count ≤ usable rows.old }
+        requires done_in { done ≤ count }
         ensures { let s = S.Profile.rules self.now.station.now in let m = M.Profile.rules self.now.manual.now in Stepped event_kind s m self.now.start (usable rows.old) count rows.old (tops_tried event_kind s m self.now.start (said (take count rows.old)) done (row_of row)) result rows.new }
     {
         let members = row.members();

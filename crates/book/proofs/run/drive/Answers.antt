@@ -7,7 +7,7 @@ use Rattle.book.specs.Turns.{held_of, is_completed}
 use Rattle.book.specs.Guarantee.{Guarantee}
 use Rattle.book.specs.ByContract.{GuaranteeByContract}
 use Rattle.book.specs.Blank.{blank_turn}
-use Rattle.book.proofs.Turning.{rest_left, turn_written, all_written}
+use Rattle.book.proofs.Turning.{rest_left, turn_written}
 use Rattle.book.proofs.Walking.{starts_small, step_kept, guarantee_begins, guarantee_next}
 use Rattle.book.proofs.Contracting.{by_contract_begins, by_contract_next}
 use Rattle.book.proofs.run.drive.Goals as goal
@@ -46,20 +46,4 @@ loop-turn-preserved g c =
       by_contract = turn_written ByContract c.args.turns.now c.loop-turn.turns i long blank_turn turn inside c.loop-turn.invariant.rest refl
           (by_contract_next _ _ _ _ _ _ _ _ _ _ _ _ (get_or c.args.turns.now i blank_turn) turn _ _ c.loop-turn.invariant.by_contract step c.step-next.ensures c.held-turn.ensures);
       rest = rest_left c.args.turns.now c.loop-turn.turns i blank_turn turn long inside c.loop-turn.invariant.rest;
-    }
-
-pub returns : goal.returns
-returns g c =
-    let s = g.S.Profile.rules c.args.station.now in
-    let m = g.M.Profile.rules c.args.manual.now in
-    let start = head_of_starts (g.S.Profile.origin c.args.station.now) (g.M.Profile.origin c.args.manual.now) in
-    let room = usable c.args.rows.now in
-    let completed = is_completed c.args.book in
-    let held = held_of c.args.book in
-    let end : length c.loop-turn.turns ≤ c.loop-turn.turn-index = omega arith in
-    let Kept = λ (given written : List Turn). Guarantee event_kind s m start room completed held given written c.args.rows.now c.loop-turn.book c.loop-turn.rows in
-    let ByContract = λ (given written : List Turn). GuaranteeByContract event_kind s m start room completed held given written c.args.rows.now c.loop-turn.book c.loop-turn.rows in
-    record {
-      kept = all_written Kept c.args.turns.now c.loop-turn.turns c.loop-turn.turn-index c.loop-turn.auto.turns end c.loop-turn.invariant.kept;
-      by_contract = all_written ByContract c.args.turns.now c.loop-turn.turns c.loop-turn.turn-index c.loop-turn.auto.turns end c.loop-turn.invariant.by_contract;
     }

@@ -4,4 +4,4 @@ use Rattle.book.proofs.making.Sides.try_new_head.Goals as goal
 
 pub returns-then-is_called_for : goal.returns-then-is_called_for
 returns-then-is_called_for g c =
-    went_still _ _ _ _ _ _ _ c.requires.0 (known_head _ _ _ _ c.args.count c.args.done c.args.rows.now c.args.head c.requires.0 c.requires.1 c.if-is_called_for.ensures)
+    went_still _ _ _ _ _ _ _ c.requires.count_in (known_head _ _ _ _ c.args.count c.args.done c.args.rows.now c.args.head c.requires.count_in c.requires.done_in c.if-is_called_for.ensures)

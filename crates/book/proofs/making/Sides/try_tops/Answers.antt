@@ -12,7 +12,7 @@ returns-in_err-held g c =
 
 pub loop-m-preserved : goal.loop-m-preserved
 loop-m-preserved g c =
-    members_go_on _ _ _ _ _ c.args.done _ _ _ _ _ c.members-members.result.now c.loop-m.m-index c.top.result c.requires.0 c.requires.1 c.loop-m-test.true c.top.ensures c.loop-m.invariant c.in_ok-held.ensures
+    members_go_on _ _ _ _ _ c.args.done _ _ _ _ _ c.members-members.result.now c.loop-m.m-index c.top.result c.requires.count_in c.requires.done_in c.loop-m-test.true c.top.ensures c.loop-m.invariant c.in_ok-held.ensures
 
 pub returns : goal.returns
 returns g c =
