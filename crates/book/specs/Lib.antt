@@ -14,3 +14,4 @@ pub mod Turns
 pub mod Guarantee
 pub mod ByContract
 pub mod Deciding
+pub mod Printed

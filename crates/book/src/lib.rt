@@ -10,6 +10,7 @@ mod completed;
 mod held;
 mod joining;
 mod making;
+mod printed;
 mod reply;
 pub mod rulings;
 pub mod run;

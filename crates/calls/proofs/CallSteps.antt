@@ -1,20 +1,20 @@
 -- The calls of a text, one after the other.
-use Rattle.std.proofs.Common.{◌≡◌, ℕ, zero, suc, ◌+◌, ◌-◌, ◌<◌, ◌≤◌, Bool, true, false, cond, leb, List, [], ◌∷◌, ◌++◌, map, length, take, drop, Some, None, Ok, Err, codes, Option, Result, sym, refl, ap, ◌∙◌, inl, inr, arith, length-append, length-drop}
+use Rattle.std.proofs.Common.{◌≡◌, ℕ, zero, suc, ◌+◌, ◌-◌, ◌<◌, ◌≤◌, Bool, true, false, cond, leb, List, [], ◌∷◌, ◌++◌, map, length, drop, Some, None, Ok, Err, codes, Option, Result, sym, refl, ap, ◌∙◌, inl, inr, arith, length-append, length-drop}
 use Rattle.std.proofs.lemmas.List.{map-append}
 use Rattle.std.proofs.lemmas.Bool.{cond-true, cond-false, cases_Bool}
 use Rattle.std.specs.Str.{bytes_eq}
+use Rattle.text.specs.declared.fault.WordCause.{WordCause}
+use Rattle.text.specs.declared.fault.Cause.{Cause}
 use Rattle.text.specs.declared.fault.Fault.{Fault}
-use Rattle.text.specs.declared.fault.WordFault.{WordFault}
 use Rattle.text.specs.declared.fault.WordCause.TheVariants.{WordTooLong}
 use Rattle.text.specs.declared.words.Due.{Due}
 use Rattle.text.specs.declared.words.Word.{Word}
-use Rattle.text.specs.declared.reader.Reader.{Reader}
 use Rattle.text.specs.declared.words.Due.TheVariants.{Keyword, Number}
-use Rattle.text.specs.Faults.{place_at, word_fault, word_fault_in}
-use Rattle.text.specs.Words.{is_blank, Rest, Step, Spelled, run_end, cut_at, found, next_from, next_word, text_end, rest_of, spelled, seen}
-use Rattle.text.specs.Sections.{and_then, there, word_due, in_range, plain_number}
-use Rattle.text.proofs.Spacing.{impossible, run_some}
-use Rattle.text.proofs.Dues.{then_ok, then_is, cond_ok, ok_same}
+use Rattle.text.specs.Faults.{word_fault, word_fault_in}
+use Rattle.text.specs.Words.{is_blank, Rest, Step, Spelled, run_end, front, cut_at, found, next_from, next_word, text_end, spelled, seen}
+use Rattle.text.specs.Sections.{and_then, word_due, in_range, plain_number}
+use Rattle.text.proofs.Spacing.{run_some}
+use Rattle.text.proofs.Dues.{then_ok, then_is, cond_ok, ok_same, there_some}
 use Rattle.book.specs.declared.run.Call.{Call}
 use Rattle.book.specs.declared.run.Call.TheVariants as call
 use Rattle.book.specs.declared.run.Turn.{Turn}
@@ -22,40 +22,35 @@ use Rattle.book.specs.Turns.{to_be_made}
 use Rattle.calls.specs.Calls.{read_operand, read_enter, read_join, read_call, call_or_end, more_calls, all_calls, calls_of, AllToBeMade}
 
 -- what the reader told, as what is next in the text
-pub word_seen : (o : Option Word) (w : Word) (now : Reader) (s : Rest) → seen (Ok o) now ≡ next_word Keyword s → o ≡ Some w → next_word Keyword s ≡ Ok (Some (record { value = spelled w; rest = rest_of now }))
+pub word_seen : (o : Option Word) (w : Word) (now : Rest) (s : Rest) → seen (Ok o) now ≡ next_word Keyword s → o ≡ Some w → next_word Keyword s ≡ Ok (Some (record { value = spelled w; rest = now }))
 word_seen o w now s e is = sym e ∙ ap (λ (x : Option Word). seen (Ok x) now) is
 
-pub end_seen : (o : Option Word) (now : Reader) (s : Rest) → seen (Ok o) now ≡ next_word Keyword s → o ≡ None → next_word Keyword s ≡ Ok None
+pub end_seen : (o : Option Word) (now : Rest) (s : Rest) → seen (Ok o) now ≡ next_word Keyword s → o ≡ None → next_word Keyword s ≡ Ok None
 end_seen o now s e is = sym e ∙ ap (λ (x : Option Word). seen (Ok x) now) is
 
 -- what is left gets shorter: a word has at least one byte
-cut_shrinks : (k : Due) (b : ℕ) (t : List ℕ) (p n : ℕ) (w : Step Spelled) → 1 ≤ n - p → (d : Bool) → found (cond d (Ok (record { value = record { kind = k; bytes = take (n - p) (b ∷ t); place = place_at p }; rest = record { bytes = drop (n - p) (b ∷ t); at = p + (n - p) } })) (Err (word_fault WordTooLong p))) ≡ Ok (Some w) → length w.rest.bytes < length (b ∷ t)
-cut_shrinks k b t p n w some false h = impossible (cc)
+cut_shrinks : (k : Due) (b : ℕ) (t : List ℕ) (p n : ℕ) (w : Step Spelled) → 1 ≤ n - p → (d : Bool) → found (cond d (Ok (front k (n - p) (b ∷ t) p)) (Err (word_fault WordTooLong p))) ≡ Ok (Some w) → length w.rest.bytes < length (b ∷ t)
+cut_shrinks k b t p n w some false h = cc
 cut_shrinks k b t p n w some true h =
-    let whole : ◌≡◌ {A = Step Spelled} (record { value = record { kind = k; bytes = take (n - p) (b ∷ t); place = place_at p }; rest = record { bytes = drop (n - p) (b ∷ t); at = p + (n - p) } }) w = cc in
+    let whole : ◌≡◌ {A = Step Spelled} (front k (n - p) (b ∷ t) p) w = cc in
     let back : length (drop (n - p) (b ∷ t)) ≡ length w.rest.bytes = ap (λ (x : Step Spelled). length x.rest.bytes) whole in
     let left = length-drop (n - p) (b ∷ t) in
     omega arith
 
-at_shrinks : (k : Due) (b : ℕ) (t : List ℕ) (p : ℕ) (w : Step Spelled) → is_blank b ≡ false → (r : Result ℕ WordFault) → run_end (b ∷ t) p ≡ r → found (cut_at k (b ∷ t) p r) ≡ Ok (Some w) → length w.rest.bytes < length (b ∷ t)
-at_shrinks k b t p w nb (Err f) e h = impossible (cc)
+at_shrinks : (k : Due) (b : ℕ) (t : List ℕ) (p : ℕ) (w : Step Spelled) → is_blank b ≡ false → (r : Result ℕ (Fault WordCause)) → run_end (b ∷ t) p ≡ r → found (cut_at k (b ∷ t) p r) ≡ Ok (Some w) → length w.rest.bytes < length (b ∷ t)
+at_shrinks k b t p w nb (Err f) e h = cc
 at_shrinks k b t p w nb (Ok n) e h = cut_shrinks k b t p n w (run_some b t p n nb e) (leb (n - p) 16) h
 
 pub next_shrinks : (k : Due) (t : List ℕ) (p : ℕ) (w : Step Spelled) → next_from k t p ≡ Ok (Some w) → length w.rest.bytes < length t
-next_shrinks k [] p w h = impossible (cc)
+next_shrinks k [] p w h = cc
 next_shrinks k (b ∷ t) p w h =
     elim (cases_Bool (is_blank b)) [
       | inl on ↦ (let l = next_shrinks k t (p + 1) w (sym (cond-true _ _ _ on) ∙ h) in omega arith)
       | inr off ↦ at_shrinks k b t p w off (run_end (b ∷ t) p) refl (sym (cond-false _ _ _ off) ∙ h)
     ]
 
-there_some : (e : ℕ) (r : Result (Option (Step Spelled)) WordFault) (w : Step Spelled) → there e r ≡ Ok w → r ≡ Ok (Some w)
-there_some e (Ok None) w h = impossible (cc)
-there_some e (Ok (Some x)) w h = let f : x ≡ w = cc in ap (λ (y : Step Spelled). Ok (Some y)) f
-there_some e (Err f) w h = impossible (cc)
-
 range_keeps : (lo hi : ℕ) (w : Step Spelled) (o : Option ℕ) (n : Step ℕ) → in_range lo hi w o ≡ Ok n → w.rest ≡ n.rest
-range_keeps lo hi w None n h = impossible (cc)
+range_keeps lo hi w None n h = cc
 range_keeps lo hi w (Some m) n h = ap (λ (x : Step ℕ). x.rest) (ok_same (cond_ok _ _ _ _ h).1)
 
 operand_shrinks : (s : Rest) (n : Step ℕ) → read_operand s ≡ Ok n → length n.rest.bytes ≤ length s.bytes
@@ -87,7 +82,7 @@ join_shrinks s c h =
     let same : length second.0.rest.bytes ≡ length c.rest.bytes = ap (λ (x : Step Call). length x.rest.bytes) (ok_same second.2) in
     omega arith
 
-here_keeps : (s : Rest) (v : Call) (c : Step Call) → ◌≡◌ {A = Result (Step Call) Fault} (Ok (record { value = v; rest = s })) (Ok c) → length c.rest.bytes ≤ length s.bytes
+here_keeps : (s : Rest) (v : Call) (c : Step Call) → ◌≡◌ {A = Result (Step Call) (Fault Cause)} (Ok (record { value = v; rest = s })) (Ok c) → length c.rest.bytes ≤ length s.bytes
 here_keeps s v c h = let same : length s.bytes ≡ length c.rest.bytes = ap (λ (x : Step Call). length x.rest.bytes) (ok_same h) in omega arith
 
 pub call_shrinks : (w : Step Spelled) (c : Step Call) → read_call w ≡ Ok c → length c.rest.bytes ≤ length w.rest.bytes
@@ -147,22 +142,22 @@ ended (suc k) cs s h = ap (call_or_end (more_calls k) cs) h
 pub all_so_far : (from : Rest) (ts : List Turn) (s : Rest) → next_word Keyword s ≡ Ok None → SoFar from ts s → all_calls from ≡ Ok (calls_of ts)
 all_so_far from ts s h so = sym so.same ∙ ended (length from.bytes - length ts) (calls_of ts) s h
 
-some_left : (k : Due) (t : List ℕ) (p : ℕ) (f : WordFault) → next_from k t p ≡ Err f → 1 ≤ length t
-some_left k [] p f h = impossible (cc)
+some_left : (k : Due) (t : List ℕ) (p : ℕ) (f : Fault WordCause) → next_from k t p ≡ Err f → 1 ≤ length t
+some_left k [] p f h = cc
 some_left k (b ∷ t) p f h = omega arith
 
-pub word_fault_so_far : (from : Rest) (ts : List Turn) (s : Rest) (f : WordFault) → next_word Keyword s ≡ Err f → SoFar from ts s → all_calls from ≡ Err (word_fault_in f)
+pub word_fault_so_far : (from : Rest) (ts : List Turn) (s : Rest) (f : Fault WordCause) → next_word Keyword s ≡ Err f → SoFar from ts s → all_calls from ≡ Err (word_fault_in f)
 word_fault_so_far from ts s f h so =
     let l = some_left Keyword s.bytes s.at f h in
     let room = so.room in
     let fuel : length from.bytes - length ts ≡ suc (length from.bytes - length ts - 1) = omega arith in
     sym so.same ∙ ap (λ k. more_calls k (calls_of ts) s) fuel ∙ ap (call_or_end (more_calls (length from.bytes - length ts - 1)) (calls_of ts)) h
 
-pub call_fault_so_far : (from : Rest) (ts : List Turn) (s : Rest) (w : Step Spelled) (f : Fault) → next_word Keyword s ≡ Ok (Some w) → read_call w ≡ Err f → SoFar from ts s → all_calls from ≡ Err f
+pub call_fault_so_far : (from : Rest) (ts : List Turn) (s : Rest) (w : Step Spelled) (f : Fault Cause) → next_word Keyword s ≡ Ok (Some w) → read_call w ≡ Err f → SoFar from ts s → all_calls from ≡ Err f
 call_fault_so_far from ts s w f n h so =
     let l = next_shrinks Keyword s.bytes s.at w n in
     let room = so.room in
     let fuel : length from.bytes - length ts ≡ suc (length from.bytes - length ts - 1) = omega arith in
-    let more : List Call → Rest → Result (List Call) Fault = more_calls (length from.bytes - length ts - 1) in
+    let more : List Call → Rest → Result (List Call) (Fault Cause) = more_calls (length from.bytes - length ts - 1) in
     sym so.same ∙ ap (λ k. more_calls k (calls_of ts) s) fuel ∙ ap (call_or_end more (calls_of ts)) n ∙
-    ap (λ (r : Result (Step Call) Fault). and_then r (λ c. more (calls_of ts ++ c.value ∷ []) c.rest)) h
+    ap (λ (r : Result (Step Call) (Fault Cause)). and_then r (λ c. more (calls_of ts ++ c.value ∷ []) c.rest)) h

@@ -1,18 +1,17 @@
 -- A text of calls is accepted just where the grammar says what it says, and no text says two things.
-use Rattle.std.proofs.Common.{◌≡◌, ℕ, zero, suc, ◌≤◌, Bool, true, false, cond, leb, List, [], ◌∷◌, ◌++◌, length, Some, None, Ok, Err, codes, decimal, Option, Result, sym, refl, ap, ◌∙◌, subst, inl, inr, append_assoc, arith}
+use Rattle.std.proofs.Common.{◌≡◌, ℕ, zero, suc, ◌≤◌, true, false, List, [], ◌∷◌, ◌++◌, length, Some, None, Ok, Err, codes, decimal, Option, Result, sym, refl, ap, ◌∙◌, subst, inl, inr, append_assoc, arith}
 use Rattle.std.proofs.lemmas.List.{append-nil}
-use Rattle.std.proofs.lemmas.Bool.{cond-true, cond-false, cases_Bool, leb-true, le-leb}
+use Rattle.std.proofs.lemmas.Bool.{cond-true, cond-false, cases_Bool}
 use Rattle.std.specs.Str.{bytes_eq}
+use Rattle.text.specs.declared.fault.WordCause.{WordCause}
+use Rattle.text.specs.declared.fault.Cause.{Cause}
 use Rattle.text.specs.declared.fault.Fault.{Fault}
-use Rattle.text.specs.declared.fault.WordFault.{WordFault}
-use Rattle.text.specs.declared.fault.WordCause.TheVariants.{TextTooLong}
 use Rattle.text.specs.declared.words.Due.TheVariants.{Keyword}
-use Rattle.text.specs.Faults.{word_fault}
-use Rattle.text.specs.Words.{Rest, Step, Spelled, begun, length_judged, next_word}
+use Rattle.text.specs.Words.{Rest, Step, Spelled, begun, next_word}
 use Rattle.text.specs.Sections.{read_keyword, read_number}
-use Rattle.text.specs.ProfileText.{judged}
 use Rattle.text.specs.Grammar.{Spaced, ends}
-use Rattle.text.proofs.Spacing.{impossible, Takes, takes_none, takes_then, next_of, none_of, word_of, end_of}
+use Rattle.text.proofs.Spacing.{Takes, takes_none, takes_then, next_of, none_of, word_of, end_of}
+use Rattle.text.proofs.Saying.{short_text, read_short}
 use Rattle.text.proofs.Dues.{then_ok, then_is, cond_ok, ok_same, same_bytes, bytes_same, keyword_takes, keyword_reads, number_takes, number_reads}
 use Rattle.book.specs.declared.run.Call.{Call}
 use Rattle.book.specs.declared.run.Call.TheVariants as call
@@ -64,7 +63,7 @@ join_takes w c spelled h =
     })
 
 -- a call of one word
-word_takes : (w : Step Spelled) (v : Call) (c : Step Call) → w.value.bytes ∷ [] ≡ call_words v → Small v → ◌≡◌ {A = Result (Step Call) Fault} (Ok (record { value = v; rest = w.rest })) (Ok c) → CallTaken w c
+word_takes : (w : Step Spelled) (v : Call) (c : Step Call) → w.value.bytes ∷ [] ≡ call_words v → Small v → ◌≡◌ {A = Result (Step Call) (Fault Cause)} (Ok (record { value = v; rest = w.rest })) (Ok c) → CallTaken w c
 word_takes w v c words small h =
     subst (λ (x : Step Call). CallTaken w x) (ok_same h) (record { small = small; tail = []; words = words; takes = takes_none w.rest })
 
@@ -98,7 +97,7 @@ nothing_left : (t : List ℕ) → length t ≤ 0 → Spaced t []
 nothing_left [] h = ends
 nothing_left (b ∷ t) h = absurd (omega arith)
 
-no_more : (before : List Call) (s : Rest) (cs : List Call) → Spaced s.bytes [] → ◌≡◌ {A = Result (List Call) Fault} (Ok before) (Ok cs) → CallsTaken before s cs
+no_more : (before : List Call) (s : Rest) (cs : List Call) → Spaced s.bytes [] → ◌≡◌ {A = Result (List Call) (Fault Cause)} (Ok before) (Ok cs) → CallsTaken before s cs
 no_more before s cs none h = record { new = []; all = sym (ok_same h) ∙ sym (append-nil before); small = tt; spelled = none }
 
 one_more : (before : List Call) (s : Rest) (cs : List Call) (w : Step Spelled) (c : Step Call) → next_word Keyword s ≡ Ok (Some w) → CallTaken w c → CallsTaken (before ++ c.value ∷ []) c.rest cs → CallsTaken before s cs
@@ -111,28 +110,18 @@ one_more before s cs w c n taken more = record {
       (word_of Keyword s.bytes s.at w n (taken.tail ++ calls_words more.new) (taken.takes.gives (calls_words more.new) more.spelled));
 }
 
-call_or_none : (k : ℕ) (before : List Call) (s : Rest) (cs : List Call) → length s.bytes ≤ suc k → ((b : List Call) (t : Rest) → length t.bytes ≤ k → more_calls k b t ≡ Ok cs → CallsTaken b t cs) → (r : Result (Option (Step Spelled)) WordFault) → next_word Keyword s ≡ r → call_or_end (more_calls k) before r ≡ Ok cs → CallsTaken before s cs
+call_or_none : (k : ℕ) (before : List Call) (s : Rest) (cs : List Call) → length s.bytes ≤ suc k → ((b : List Call) (t : Rest) → length t.bytes ≤ k → more_calls k b t ≡ Ok cs → CallsTaken b t cs) → (r : Result (Option (Step Spelled)) (Fault WordCause)) → next_word Keyword s ≡ r → call_or_end (more_calls k) before r ≡ Ok cs → CallsTaken before s cs
 call_or_none k before s cs few again (Ok None) n e = no_more before s cs (end_of Keyword s.bytes s.at n) e
 call_or_none k before s cs few again (Ok (Some w)) n e =
     let p = then_ok (read_call w) _ cs e in
     let i = next_shrinks Keyword s.bytes s.at w n in
     let j = call_shrinks w p.0 p.1 in
     one_more before s cs w p.0 n (call_takes w p.0 p.1) (again (before ++ p.0.value ∷ []) p.0.rest (omega arith) p.2)
-call_or_none k before s cs few again (Err f) n e = impossible (cc)
+call_or_none k before s cs few again (Err f) n e = cc
 
 more_take : (k : ℕ) (before : List Call) (s : Rest) (cs : List Call) → length s.bytes ≤ k → more_calls k before s ≡ Ok cs → CallsTaken before s cs
 more_take zero before s cs few h = no_more before s cs (nothing_left s.bytes few) h
 more_take (suc k) before s cs few h = call_or_none k before s cs few (λ b t. more_take k b t cs) (next_word Keyword s) refl h
-
--- the length of a text
-short_text : {T : Type 0} (t : List ℕ) (r : Result T Fault) (x : T) → judged (length_judged t) r ≡ Ok x → (length t ≤ 20000) × (r ≡ Ok x)
-short_text {T} t r x = at (leb (length t) 20000) refl where
-  at : (b : Bool) → leb (length t) 20000 ≡ b → judged {T = T} (cond b (Ok tt) (Err (word_fault TextTooLong 0))) r ≡ Ok x → (length t ≤ 20000) × (r ≡ Ok x)
-  at true e h = (leb-true (length t) 20000 e, h)
-  at false e h = impossible (cc)
-
-read_short : {T : Type 0} (t : List ℕ) (r : Result T Fault) → length t ≤ 20000 → judged (length_judged t) r ≡ r
-read_short {T} t r h = ap (λ (x : Result (Unit {0}) WordFault). judged {T = T} x r) (cond-true _ _ _ (le-leb (length t) 20000 h))
 
 -- accepted texts say what was read
 accepted_says : (text : List ℕ) (lend : ℕ) (calls : List Call) → read_calls text ≡ Ok (lend, calls) → SaysCalls text lend calls
@@ -258,8 +247,8 @@ says_one text lend more calls others a b =
     let same : ◌≡◌ {A = ℕ × List Call} (lend, calls) (more, others) = ok_same (sym (said_accepted text lend calls a) ∙ said_accepted text more others b) in
     (ap (λ (p : ℕ × List Call). p.0) same, ap (λ (p : ℕ × List Call). p.1) same)
 
-refused_says : (text : List ℕ) (f : Fault) (lend : ℕ) (calls : List Call) → read_calls text ≡ Err f → SaysCalls text lend calls → ⊥
-refused_says text f lend calls e s = let g = sym (said_accepted text lend calls s) ∙ e in impossible (cc)
+refused_says : (text : List ℕ) (f : Fault Cause) (lend : ℕ) (calls : List Call) → read_calls text ≡ Err f → SaysCalls text lend calls → ⊥
+refused_says text f lend calls e s = let g = sym (said_accepted text lend calls s) ∙ e in cc
 
 pub judged_by_grammar : (text : List ℕ) (r : Result Script Unread) → TextRead text r → CallsJudged text r
 judged_by_grammar text (Ok script) h = accepted_says text script.lend _ h.0

@@ -2,6 +2,7 @@
 use Rattle.std.specs.Prelude.{◌≡◌, ℕ, false, List, ◌++◌, map, replicate, Some, Ok, Err, codes, Option, Result}
 use Rattle.profile.specs.declared.Rule.{Rule}
 use Rattle.profile.specs.Kinds.{event_kind}
+use Rattle.text.specs.declared.fault.Cause.{Cause}
 use Rattle.text.specs.declared.fault.Fault.{Fault}
 use Rattle.text.specs.ProfileText.{Reading, read_profile}
 use Rattle.text.specs.Report.{line_end, refusal_line}
@@ -42,18 +43,18 @@ pub record Ran (station manual : Reading) (lend : ℕ) (calls : List Call) (byte
   pub told : bytes ≡ turns_text turns ++ rows_text (held_rows rows (held_of book))
 
 -- a refused text: which it is, and its fault
-abbrev pub refused_text : List ℕ → Fault → List ℕ
+abbrev pub refused_text : List ℕ → Fault Cause → List ℕ
 refused_text which f = which ++ line_end ++ refusal_line f
 
-abbrev pub CallsTold : Reading → Reading → Result (ℕ × List Call) Fault → List ℕ → Type 0
+abbrev pub CallsTold : Reading → Reading → Result (ℕ × List Call) (Fault Cause) → List ℕ → Type 0
 CallsTold station manual (Ok script) bytes = Ran station manual script.0 script.1 bytes
 CallsTold station manual (Err f) bytes = bytes ≡ refused_text (codes "calls") f
 
-abbrev pub ManualTold : Reading → Result Reading Fault → List ℕ → List ℕ → Type 0
+abbrev pub ManualTold : Reading → Result Reading (Fault Cause) → List ℕ → List ℕ → Type 0
 ManualTold station (Ok manual) calls bytes = CallsTold station manual (read_calls calls) bytes
 ManualTold station (Err f) calls bytes = bytes ≡ refused_text (codes "manual") f
 
-abbrev pub StationTold : Result Reading Fault → List ℕ → List ℕ → List ℕ → Type 0
+abbrev pub StationTold : Result Reading (Fault Cause) → List ℕ → List ℕ → List ℕ → Type 0
 StationTold (Ok station) manual calls bytes = ManualTold station (read_profile manual) calls bytes
 StationTold (Err f) manual calls bytes = bytes ≡ refused_text (codes "station") f
 

@@ -4,37 +4,24 @@ ghost use Rattle.text.specs.ProfileText.{reading_of};
 ghost use Rattle.calls.specs.Calls.{calls_of, AllToBeMade};
 ghost use Rattle.calls.specs.Judging.{Ran, refused_text, Told};
 
-use crate::printing::{put_fault, put_rows, put_turns};
+use crate::printing::{put_rows, put_turns};
 use crate::reading::{Script, Unread, read_calls};
 use book::run::run;
 use game::Row;
 use profile::Table;
 use std::alloc::{AllocError, Global};
-use std::error::Error;
-use std::fmt;
 use text::fault::Fault;
 use text::profiles::read_profile;
+use thiserror::Error;
 
 // There is no memory for what is to be printed.
-#[derive(Clone, Copy, Debug)]
+#[derive(Clone, Copy, Debug, Error)]
+#[error("there is no memory for what is to be printed")]
 pub struct OutOfMemory;
 
-impl fmt::Display for OutOfMemory {
-    fn fmt<W: fmt::Write>(&self, f: &mut fmt::Formatter<W>) -> fmt::Result {
-        write!(f, "there is no memory for what is to be printed")
-    }
-}
-
-impl Error for OutOfMemory {}
-
+// By hand: the derive asks for a field that holds what it is made from.
 impl From<AllocError> for OutOfMemory {
     fn from(_e: AllocError) -> OutOfMemory {
-        OutOfMemory
-    }
-}
-
-impl From<fmt::Error> for OutOfMemory {
-    fn from(_e: fmt::Error) -> OutOfMemory {
         OutOfMemory
     }
 }
@@ -43,10 +30,7 @@ impl From<fmt::Error> for OutOfMemory {
 fn refused(heap: Global, which: &str, fault: &Fault) -> Result<String, OutOfMemory>
     ensures { IfOk result (λ s. string_bytes s ≡ refused_text which.now fault.now) }
 {
-    let mut out = String::new(heap);
-    writeln!(out, "{which}")?;
-    put_fault(&mut out, fault)?;
-    Ok(out)
+    Ok(format!(in heap; "{which}\n{fault}")?)
 }
 
 // Makes the calls, and tells what came of them.
@@ -64,7 +48,7 @@ fn answered(
     let book = run(station, manual, rows.as_mut_slice(), turns.as_mut_slice());
     let mut out = String::new(heap);
     put_turns(&mut out, turns.as_slice())?;
-    put_rows(&mut out, &rows.as_slice()[0..book.held()])?;
+    put_rows(&mut out, &rows.as_slice()[..book.held()])?;
     Ok(out)
 }
 

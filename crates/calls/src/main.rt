@@ -6,7 +6,7 @@ mod judging;
 mod printing;
 mod reading;
 
-use anyhow::anyhow;
+use anyhow::ensure;
 use judging::judge;
 use std::env;
 use std::fs::File;
@@ -23,8 +23,8 @@ fn text_of(rt: &HostRuntime, path: &str) -> anyhow::Result<Vec<u8>> {
     Ok(text)
 }
 
-// Prints what comes of the texts of three files.
-fn try_calls(rt: &HostRuntime, station: &str, manual: &str, calls: &str) -> anyhow::Result<()> {
+// Prints what comes of the texts of three files: a station's profile, the manual's, and the calls.
+fn try_calls(rt: &HostRuntime, [station, manual, calls]: [&str; 3]) -> anyhow::Result<()> {
     let station = text_of(rt, station)?;
     let manual = text_of(rt, manual)?;
     let calls = text_of(rt, calls)?;
@@ -39,19 +39,14 @@ fn try_calls(rt: &HostRuntime, station: &str, manual: &str, calls: &str) -> anyh
 }
 
 fn run(rt: &HostRuntime) -> anyhow::Result<()> {
-    let mut args = env::args(rt)?;
-    let _program = args.next();
-    let paths: Vec<String> = args.collect(rt.alloc())?;
+    let paths: Vec<String> = env::args(rt)?.skip(1).collect(rt.alloc())?;
     if paths.is_empty() {
-        return try_calls(rt, "station.prf", "manual.prf", "calls.txt");
+        return try_calls(rt, ["station.prf", "manual.prf", "calls.txt"]);
     }
-    if paths.len() % 3 != 0 {
-        return Err(anyhow!("usage: calls [STATION MANUAL CALLS]..."));
-    }
-    for three in paths.as_slice().chunks(3) {
-        if let [station, manual, calls] = three {
-            try_calls(rt, station.as_str(), manual.as_str(), calls.as_str())?;
-        }
+    let (threes, rest) = paths.as_slice().as_chunks::<3>();
+    ensure!(rest.is_empty(), "usage: calls [STATION MANUAL CALLS]...");
+    for [station, manual, calls] in threes {
+        try_calls(rt, [station.as_str(), manual.as_str(), calls.as_str()])?;
     }
     Ok(())
 }

@@ -1,6 +1,6 @@
 // Reads a text of calls: the word `lend` and how many rows are lent, and then calls to the end of the text.
 ghost use Rattle.std.specs.Prelude.{◌≡◌};
-ghost use Rattle.text.specs.Words.{rest_of, spelled};
+ghost use Rattle.text.specs.Words.{spelled};
 ghost use Rattle.text.specs.Sections.{stepped};
 ghost use Rattle.text.specs.Faults.{word_fault_in};
 ghost use Rattle.calls.specs.declared.reading.Unread.TheVariants.{Refused as UnreadFor, NoMemory};
@@ -9,7 +9,7 @@ ghost use Rattle.calls.specs.CallGrammar.{CallsJudged, SaysOne};
 
 use book::run::{Call, Turn};
 use std::alloc::{AllocFailed, Global};
-use text::fault::{Fault, SectionCause, WordFault};
+use text::fault::{Fault, SectionCause, WordCause};
 use text::reader::Reader;
 use text::sections::{alike, keyword, number};
 use text::words::{Due, Word, judge_length};
@@ -30,6 +30,7 @@ pub enum Unread {
     NoMemory,
 }
 
+// By hand: which fault it was is promised, and what a derive writes has no contract.
 impl From<Fault> for Unread {
     ghost from_gives = { λ f r. r ≡ UnreadFor f };
 
@@ -38,10 +39,10 @@ impl From<Fault> for Unread {
     }
 }
 
-impl From<WordFault> for Unread {
+impl From<Fault<WordCause>> for Unread {
     ghost from_gives = { λ f r. r ≡ UnreadFor (word_fault_in f) };
 
-    fn from(f: WordFault) -> Unread {
+    fn from(f: Fault<WordCause>) -> Unread {
         Unread::Refused(f.into())
     }
 }
@@ -56,7 +57,7 @@ impl<T: Drop> From<AllocFailed<T>> for Unread {
 
 // Takes a number of a call.
 fn operand(reader: &mut Reader<'_>) -> Result<usize, Fault>
-    ensures { stepped result reader.new ≡ read_operand (rest_of reader.old) }
+    ensures { stepped result reader.new ≡ read_operand reader.old }
 {
     let n = number(reader, 0, 9999)?;
     Ok(usize::from(n))
@@ -64,7 +65,7 @@ fn operand(reader: &mut Reader<'_>) -> Result<usize, Fault>
 
 // Takes the numbers of an attack.
 fn attack(reader: &mut Reader<'_>) -> Result<Call, Fault>
-    ensures { stepped result reader.new ≡ read_enter (rest_of reader.old) }
+    ensures { stepped result reader.new ≡ read_enter reader.old }
 {
     let side = operand(reader)?;
     let slot = operand(reader)?;
@@ -80,7 +81,7 @@ fn attack(reader: &mut Reader<'_>) -> Result<Call, Fault>
 
 // Takes the numbers of two rows.
 fn two_rows(reader: &mut Reader<'_>) -> Result<Call, Fault>
-    ensures { stepped result reader.new ≡ read_join (rest_of reader.old) }
+    ensures { stepped result reader.new ≡ read_join reader.old }
 {
     let first = operand(reader)?;
     let second = operand(reader)?;
@@ -89,8 +90,9 @@ fn two_rows(reader: &mut Reader<'_>) -> Result<Call, Fault>
 
 // The call that a word begins.
 fn call_at(word: Word<'_>, reader: &mut Reader<'_>) -> Result<Call, Fault>
-    ensures { stepped result reader.new ≡ read_call (record { value = spelled word.entry; rest = rest_of reader.old }) }
+    ensures { stepped result reader.new ≡ read_call (record { value = spelled word.entry; rest = reader.old }) }
 {
+    // By `alike`: in a `match` on byte strings each byte is a case, and that the last arm is reached by no call was not proved.
     let bytes = word.bytes();
     if alike(bytes, b"enter") {
         return attack(reader);
@@ -107,12 +109,12 @@ fn call_at(word: Word<'_>, reader: &mut Reader<'_>) -> Result<Call, Fault>
     if alike(bytes, b"verdict") {
         return Ok(Call::Verdict);
     }
-    Err(Fault::section(SectionCause::WordNotDue, word.place()))
+    Err(Fault::new(SectionCause::WordNotDue, word.place()))
 }
 
 // Takes the calls to the end of the text.
 fn call_list(heap: Global, reader: &mut Reader<'_>) -> Result<Vec<Turn>, Unread>
-    ensures { CallsRead (rest_of reader.old) result }
+    ensures { CallsRead reader.old result }
 {
     let mut turns = Vec::new(heap);
     while let Some(word) = reader.next(Due::Keyword)? {
@@ -124,7 +126,7 @@ fn call_list(heap: Global, reader: &mut Reader<'_>) -> Result<Vec<Turn>, Unread>
 
 // Takes how many rows are lent, and the calls.
 fn script_of(heap: Global, reader: &mut Reader<'_>) -> Result<Script, Unread>
-    ensures { ScriptRead (rest_of reader.old) result }
+    ensures { ScriptRead reader.old result }
 {
     keyword(reader, b"lend")?;
     let lend = number(reader, 0, 1024)?;

@@ -8,3 +8,4 @@ pub mod Theorems
 pub mod Examples
 pub mod Order
 pub mod Sameness
+pub mod Printed

@@ -9,6 +9,7 @@ ghost use Rattle.game.specs.Order.{member_reflexive, member_antisymmetric, membe
 use ordered::Keyed;
 
 pub mod examples;
+mod printed;
 pub mod relation;
 pub mod row_set;
 pub mod theorems;

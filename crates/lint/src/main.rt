@@ -1,7 +1,7 @@
 // Judges a profile text: prints its reading, slot by slot, or its fault.
 #![tactic(auto)]
 
-use anyhow::anyhow;
+use anyhow::Context;
 use std::env;
 use std::fs::File;
 use std::io::{Read, Write};
@@ -11,23 +11,17 @@ use text::report::{MOST_TOLD, lint};
 const MOST_READ: u64 = 20001;
 
 fn run(rt: &HostRuntime) -> anyhow::Result<()> {
-    let mut args = env::args(rt)?;
-    let _program = args.next();
-    let Some(path) = args.next() else {
-        return Err(anyhow!("usage: lint PATH"));
-    };
+    let path = env::args(rt)?.nth(1).context("usage: lint PATH")?;
     let mut text = Vec::new(rt.alloc());
     File::open(rt, path.as_str())?
         .take(MOST_READ)
         .read_to_end(&mut text)?;
     let mut told = vec![in rt.alloc(); 0u8; MOST_TOLD]?;
-    let Ok(n) = lint(text.as_slice(), told.as_mut_slice()) else {
-        return Err(anyhow!("the report is too long"));
-    };
-    match told.as_slice().get(0..n) {
-        Some(report) => rt.stdout().write_all(report)?,
-        None => return Err(anyhow!("the report is too long")),
-    }
+    let n = lint(text.as_slice(), told.as_mut_slice()).ok();
+    let report = n
+        .and_then(|n| told.as_slice().get(..n))
+        .context("the report is too long")?;
+    rt.stdout().write_all(report)?;
     Ok(())
 }
 

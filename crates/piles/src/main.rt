@@ -2,11 +2,11 @@
 // of each. Whatever stands below, a pile is asked the same three questions.
 #![tactic(auto)]
 
-use anyhow::anyhow;
+use anyhow::Context;
 use profile::{Bare, EventTable, Loosen, OpenProfile, Profile, Rename, Rule, Table};
-use std::env;
 use std::fs::File;
 use std::io::{Read, Write};
+use std::{array, env};
 use text::profiles::read_profile;
 use text::report::slot_told;
 
@@ -16,12 +16,10 @@ const MOST_READ: u64 = 20001;
 // Prints the line of a slot with a rule.
 fn show_rule(rt: &HostRuntime, i: usize, rule: &Rule) -> anyhow::Result<()> {
     let mut line = [0u8; 80];
-    let Ok(n) = slot_told(i, rule, &mut line) else {
-        return Err(anyhow!("the line of a slot is too long"));
-    };
-    let Some(told) = line.get(0..n) else {
-        return Err(anyhow!("the line of a slot is too long"));
-    };
+    let told = slot_told(i, rule, &mut line)
+        .ok()
+        .and_then(|n| line.get(..n))
+        .context("the line of a slot is too long")?;
     rt.stdout().write_all(told)?;
     Ok(())
 }
@@ -29,8 +27,8 @@ fn show_rule(rt: &HostRuntime, i: usize, rule: &Rule) -> anyhow::Result<()> {
 // Prints every slot of a profile and its start.
 fn show<P: Profile>(rt: &HostRuntime, title: &str, p: &P) -> anyhow::Result<()> {
     println!(rt; "{title}")?;
-    let all = p.slots();
-    for i in 0..all {
+    // By number: a profile is asked for one slot at a time.
+    for i in 0..p.slots() {
         match p.slot(i) {
             Some(rule) => show_rule(rt, i, &rule)?,
             None => println!(rt; "slot {i} empty")?,
@@ -48,29 +46,22 @@ fn table_of(rt: &HostRuntime, path: &str) -> anyhow::Result<Table> {
         .take(MOST_READ)
         .read_to_end(&mut text)?;
     let mut table = Table::new();
-    match read_profile(text.as_slice(), &mut table) {
-        Ok(()) => Ok(table),
-        Err(_) => Err(anyhow!("the text is refused: lint tells why")),
-    }
+    read_profile(text.as_slice(), &mut table)
+        .ok()
+        .context("the text is refused: lint tells why")?;
+    Ok(table)
 }
 
 // A set of events.
 fn events(of: &[usize]) -> [bool; 12] {
-    let mut set = [false; 12];
-    for e in of {
-        if *e < 12 {
-            set[*e] = true;
-        }
-    }
-    set
+    array::from_fn(|e| of.contains(&e))
 }
 
 // Exchanges sample with gap and end with leave, and lets every other event stay.
 fn exchanged() -> anyhow::Result<EventTable> {
-    match EventTable::new([0, 1, 2, 3, 5, 4, 6, 7, 11, 9, 10, 8]) {
-        Ok(table) => Ok(table),
-        Err(_) => Err(anyhow!("the table renames across kinds")),
-    }
+    EventTable::new([0, 1, 2, 3, 5, 4, 6, 7, 11, 9, 10, 8])
+        .ok()
+        .context("the table renames across kinds")
 }
 
 fn over_a_table(rt: &HostRuntime, path: &str) -> anyhow::Result<()> {
@@ -109,11 +100,7 @@ fn over_an_open_profile(rt: &HostRuntime) -> anyhow::Result<()> {
 }
 
 fn run(rt: &HostRuntime) -> anyhow::Result<()> {
-    let mut args = env::args(rt)?;
-    let _program = args.next();
-    let Some(path) = args.next() else {
-        return Err(anyhow!("usage: piles PATH"));
-    };
+    let path = env::args(rt)?.nth(1).context("usage: piles PATH")?;
     over_a_table(rt, path.as_str())?;
     over_an_open_profile(rt)
 }

@@ -10,3 +10,4 @@ pub mod OpenSlots
 pub mod Renames
 pub mod Layerings
 pub mod Laws
+pub mod Meanings

@@ -12,14 +12,10 @@ use Rattle.profile.specs.Profiles.{LawfulSlot, LawfulSlots, LawfulProfile}
 use Rattle.profile.specs.Renames.{event_there}
 use Rattle.profile.specs.Opens.{free_rule, open_slot, open_slots, open_start}
 
-open_at : (events : List Bool) (i : ℕ) → i < 12 → slice_index_or (open_slots events) i None ≡ open_slot events i
-open_at events i h = get_or-map-range_with_len (open_slot events) 0 12 i i None h (omega arith)
-
-pub open_inside : (events : List Bool) (i : ℕ) → i < 12 → true ≡ slice_index_or events i false → Some (free_rule i) ≡ slice_index_or (open_slots events) i None
-open_inside events i h e = sym (open_at events i h ∙ ap (λ (b : Bool). cond b (Some (free_rule i)) None) (sym e))
-
-pub open_empty : (events : List Bool) (i : ℕ) → i < 12 → false ≡ slice_index_or events i false → None ≡ slice_index_or (open_slots events) i None
-open_empty events i h e = sym (open_at events i h ∙ ap (λ (b : Bool). cond b (Some (free_rule i)) None) (sym e))
+-- slot i is told by mark i, and from 12 on there is none
+pub open_told : (events : List Bool) (i : ℕ) (b : Bool) → i < 12 → b ≡ slice_index_or events i false → cond b (Some (free_rule i)) None ≡ slice_index_or (open_slots events) i None
+open_told events i b h e =
+    ap (λ (b : Bool). cond b (Some (free_rule i)) None) e ∙ sym (get_or-map-range_with_len (open_slot events) 0 12 i i None h (omega arith))
 
 pub open_outside : (events : List Bool) (i : ℕ) → 12 ≤ i → None ≡ slice_index_or (open_slots events) i None
 open_outside events i h = sym (get_or_past (open_slots events) i None h)

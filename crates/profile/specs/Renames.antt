@@ -6,28 +6,29 @@ use Rattle.std.specs.List.{range_with_len}
 use Rattle.profile.specs.declared.Kind.{Kind}
 use Rattle.profile.specs.declared.Kind.TheVariants.{Open, Step, Close}
 use Rattle.profile.specs.Kinds.{event_kind, symbols_used, same_kind, all_kept, keeps_kinds}
+use Rattle.profile.specs.Renaming.{Renames, Breaks}
 use Rattle.profile.specs.Rules.{Formed}
 
 -- a kind is known by how many symbols it uses
 one_kind : (j k : Kind) → symbols_used j ≡ symbols_used k → j ≡ k
 one_kind Open Open e = refl
-one_kind Open Step e = absurd (omega arith)
-one_kind Open Close e = absurd (omega arith)
-one_kind Step Open e = absurd (omega arith)
+one_kind Open Step e = cc
+one_kind Open Close e = cc
+one_kind Step Open e = cc
 one_kind Step Step e = refl
-one_kind Step Close e = absurd (omega arith)
-one_kind Close Open e = absurd (omega arith)
-one_kind Close Step e = absurd (omega arith)
+one_kind Step Close e = cc
+one_kind Close Open e = cc
+one_kind Close Step e = cc
 one_kind Close Close e = refl
 
 pub same_kind_means : (a b : Option Kind) → same_kind a b ≡ true → a ≡ b
-same_kind_means None b e = absurd (both_ways false refl e)
-same_kind_means (Some j) None e = absurd (both_ways false refl e)
+same_kind_means None b e = cc
+same_kind_means (Some j) None e = cc
 same_kind_means (Some j) (Some k) e = ap Some (one_kind j k (eqb-true _ _ e))
 
 none_differs : (a b : Option Kind) → a ≡ None → same_kind a b ≡ false
 none_differs None b e = refl
-none_differs (Some k) b e = let z : ◌≡◌ {A = ℕ} 0 1 = cc in absurd (omega arith)
+none_differs (Some k) b e = cc
 
 -- there is no event from 12 on
 no_event : (e : ℕ) → 12 ≤ e → event_kind e ≡ None
@@ -46,14 +47,11 @@ kept_event t e s = (
 -- and there is one below 12
 pub event_there : (e : ℕ) → e < 12 → event_kind e ≢ None
 event_there e h = at (nat_lt e 4) (nat_lt e 8) (nat_lt e 12) (lt-ltb e 12 h) where
-  some : (k : Kind) → Some k ≢ None
-  some k n = let z : ◌≡◌ {A = ℕ} 0 1 = cc in omega arith
-
   at : (p q r : Bool) → r ≡ true → cond p (Some Open) (cond q (Some Step) (cond r (Some Close) None)) ≢ None
-  at true q r on n = some Open n
-  at false true r on n = some Step n
-  at false false true on n = some Close n
-  at false false false on n = both_ways false refl on
+  at true q r on n = cc
+  at false true r on n = cc
+  at false false true on n = cc
+  at false false false on n = cc
 
 differ : (a b : Option Kind) → (b ≢ None) → same_kind a b ≡ false → a ≢ b
 differ a None some off e = some refl
@@ -94,9 +92,20 @@ table_broken events e h off =
       | inr broken ↦ broken
     ]
 
+-- what is told of a table whose events were all tested, or one of which failed
+pub test_judged : (events : List ℕ) (b : Bool) → (b ≡ true → (e : ℕ) → e < 12 → same_kind (event_kind (slice_index events e)) (event_kind e) ≡ true) → (b ≡ false → (e : ℕ) × (e < 12) × (same_kind (event_kind (slice_index events e)) (event_kind e) ≡ false)) → (b ≡ keeps_kinds event_kind events) × (b ≡ true → Renames events) × (b ≡ false → Breaks events)
+test_judged events true kept broken =
+    let keeps = table_taken events 12 (omega arith) (kept refl) in
+    (sym keeps, λ _. table_kept events keeps, λ off. cc)
+test_judged events false kept broken = let t = broken refl in (
+  sym (table_broken events t.0 t.1 t.2),
+  λ on. cc,
+  λ _. (t.0, t.1, inr (refused_kind events t.0 t.1 t.2)),
+)
+
 -- a rule has a form only where there is its event
 pub formed_event : (e upper lower : ℕ) → Formed (event_kind e) upper lower → e < 12
 formed_event e upper lower f = elim (cases_lt e 12) [ inl h ↦ h | inr h ↦ absurd (at (event_kind e) (no_event e h) f) ] where
   at : (k : Option Kind) → k ≡ None → Formed k upper lower → ⊥
   at None is g = g
-  at (Some k) is g = let z : ◌≡◌ {A = ℕ} 0 1 = cc in omega arith
+  at (Some k) is g = cc

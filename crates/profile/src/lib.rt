@@ -9,7 +9,6 @@ ghost use Rattle.ordered.proofs.Lexes.{lex_reflexive, lex_antisymmetric, lex_tra
 
 use ordered::Keyed;
 
-mod entries;
 mod event_table;
 mod interface;
 #[cfg(test)]
@@ -21,15 +20,16 @@ mod table;
 pub use event_table::EventTable;
 pub use event_table::calls::NotRenaming;
 pub use interface::Profile;
-pub use layers::bare::Bare;
-pub use layers::loosen::Loosen;
-pub use layers::rename::Rename;
+pub use layers::bare::{Bare, Baring};
+pub use layers::loosen::{Loosen, Loosening};
+pub use layers::rename::{Rename, Renaming};
+pub use layers::{Layer, Layering};
 pub use open_profile::OpenProfile;
 pub use table::Table;
 pub use table::calls::{NotAdded, OutOfRange};
 
-// How binding a rule is: what may happen, or what also must. A must rule counts as a may rule too.
-#[derive(Clone, Copy, PartialEq, Eq, Debug, Default)]
+// How binding a rule is: what may happen, as by default, or what also must. A must rule counts as a may rule too.
+#[derive(Clone, Copy, Default, PartialEq, Eq, Debug)]
 pub enum Mode {
     #[default]
     May,
@@ -71,7 +71,7 @@ pub fn kind_of(event: u8) -> Option<Kind>
 
 // A rule: in a state with a symbol on top, an event leads to the next state and puts the upper symbol above
 // the lower one in the place of the top.
-#[derive(Clone, Copy, PartialEq, Eq, Debug, Default)]
+#[derive(Clone, Copy, Default, PartialEq, Eq, Debug)]
 pub struct Rule {
     pub mode: Mode,
     pub state: u8,

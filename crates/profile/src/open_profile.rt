@@ -1,13 +1,13 @@
 // The open profile: it stores only a set of events, and each of them may happen in state 0 on symbol 0.
-ghost use Rattle.std.specs.Prelude.{◌≡◌, length, None, slice_index_or};
+ghost use Rattle.std.specs.Prelude.{◌≡◌};
 ghost use Rattle.profile.specs.Opens.{free_rule, open_slots, open_start, Opened};
 ghost use Rattle.profile.specs.OpenSlots.{open_profile_lawful};
 
-use crate::entries::entry_or;
-use crate::{Mode, Profile, Rule};
+use crate::{Profile, Rule};
 
 #[derive(Clone, Copy, Debug)]
 pub struct OpenProfile {
+    // A mark for each event, in place, so that the profile asks for no memory.
     events: [bool; 12],
 }
 
@@ -26,15 +26,6 @@ impl OpenProfile {
     {
         &self.events
     }
-
-    // What it answers as a profile, by its set: the number of slots, slot i and the start.
-    pub fn answers(&self, i: usize) -> (usize, Option<Rule>, (u8, u8))
-        ensures slots { result.0 ≡ length (open_slots self.now.events) }
-        ensures slot { result.1 ≡ slice_index_or (open_slots self.now.events) i None }
-        ensures start { result.2 ≡ open_start }
-    {
-        (self.slots(), self.slot(i), self.start())
-    }
 }
 
 // The event may happen in state 0 on symbol 0 and leads back there.
@@ -42,23 +33,8 @@ fn free_rule(event: u8) -> Rule
     ensures { result ≡ free_rule event }
 {
     Rule {
-        mode: Mode::May,
-        state: 0,
-        top: 0,
         event,
-        next: 0,
-        upper: 0,
-        lower: 0,
-    }
-}
-
-fn free_slot(events: &[bool], i: usize) -> Option<Rule>
-    ensures { result ≡ slice_index_or (open_slots events.now) i None }
-{
-    if i < 12 && entry_or(events, i, false) {
-        Some(free_rule(i as u8))
-    } else {
-        None
+        ..Rule::default()
     }
 }
 
@@ -74,7 +50,10 @@ impl Profile for OpenProfile {
     }
 
     fn slot(&self, i: usize) -> Option<Rule> {
-        free_slot(&self.events, i)
+        match self.events.get(i) {
+            Some(true) => Some(free_rule(i as u8)),
+            _ => None,
+        }
     }
 
     fn start(&self) -> (u8, u8) {

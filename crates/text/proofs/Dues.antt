@@ -3,27 +3,28 @@ use Rattle.std.proofs.Common.{◌≡◌, ℕ, ◌<◌, ◌≤◌, Bool, true, fa
 use Rattle.std.specs.Str.{bytes_eq}
 use Rattle.std.proofs.lemmas.Slice.Eq.{bytes_eq-Decides}
 use Rattle.std.proofs.lemmas.Bool.{cond-true, and_parts, and_from, leb-true, le-leb}
+use Rattle.text.specs.declared.fault.WordCause.{WordCause}
+use Rattle.text.specs.declared.fault.Cause.{Cause}
 use Rattle.text.specs.declared.fault.Fault.{Fault}
-use Rattle.text.specs.declared.fault.WordFault.{WordFault}
 use Rattle.text.specs.declared.words.Due.{Due}
 use Rattle.text.specs.declared.words.Due.TheVariants.{Keyword, Number}
 use Rattle.text.specs.Words.{text_end, Rest, Step, Spelled, next_word}
 use Rattle.text.specs.Sections.{and_then, there, word_due, read_keyword, plain_number, in_range, read_number, nothing_more, read_end}
 use Rattle.text.specs.Grammar.{Spaced}
-use Rattle.text.proofs.Spacing.{impossible, Takes, takes_as, next_of, none_of, word_of, end_of}
+use Rattle.text.proofs.Spacing.{Takes, takes_as, next_of, none_of, word_of, end_of}
 use Rattle.text.proofs.PlainNumbers.{number_reads_back, number_spelled_once}
 
 -- a reading that goes well goes well in each step
 pub then_ok : {T U E : Type 0} (r : Result T E) (f : T → Result U E) (y : U) → and_then r f ≡ Ok y → (x : T) × (r ≡ Ok x) × (f x ≡ Ok y)
 then_ok (Ok x) f y h = (x, refl, h)
-then_ok (Err e) f y h = impossible (cc)
+then_ok (Err e) f y h = cc
 
 pub then_is : {T U E : Type 0} {r : Result T E} {x : T} (f : T → Result U E) → r ≡ Ok x → and_then r f ≡ f x
 then_is {T} {U} {E} f e = ap (λ (r : Result T E). and_then r f) e
 
 pub cond_ok : {T E : Type 0} (b : Bool) (x : Result T E) (f : E) (y : T) → cond b x (Err f) ≡ Ok y → (b ≡ true) × (x ≡ Ok y)
 cond_ok true x f y h = (refl, h)
-cond_ok false x f y h = impossible (cc)
+cond_ok false x f y h = cc
 
 pub ok_same : {T E : Type 0} {x y : T} → ◌≡◌ {A = Result T E} (Ok x) (Ok y) → x ≡ y
 ok_same e = cc
@@ -35,7 +36,7 @@ pub bytes_same : (a b : List ℕ) → a ≡ b → bytes_eq a b ≡ true
 bytes_same a b = (bytes_eq-Decides a b).1
 
 -- reading r goes well, gives v, and leaves a text with the words ws
-pub record Reads {T : Type 0} (r : Result (Step T) Fault) (v : T) (ws : List (List ℕ)) : Type 0 where
+pub record Reads {T : Type 0} (r : Result (Step T) (Fault Cause)) (v : T) (ws : List (List ℕ)) : Type 0 where
   pub step : Step T
   pub is : r ≡ Ok step
   pub value : step.value ≡ v
@@ -53,10 +54,10 @@ word_reads k s u ws h =
     let n = next_of k s.bytes s.at u ws h in
     record { step = n.step; is = ap (there (text_end s)) n.is; bytes = n.bytes; left = n.left }
 
-there_some : (e : ℕ) (r : Result (Option (Step Spelled)) WordFault) (w : Step Spelled) → there e r ≡ Ok w → r ≡ Ok (Some w)
-there_some e (Ok None) w h = impossible (cc)
+pub there_some : (e : ℕ) (r : Result (Option (Step Spelled)) (Fault WordCause)) (w : Step Spelled) → there e r ≡ Ok w → r ≡ Ok (Some w)
+there_some e (Ok None) w h = cc
 there_some e (Ok (Some x)) w h = let f : x ≡ w = cc in ap (λ (y : Step Spelled). Ok (Some y)) f
-there_some e (Err f) w h = impossible (cc)
+there_some e (Err f) w h = cc
 
 pub word_takes : (k : Due) (s : Rest) (w : Step Spelled) → word_due k s ≡ Ok w → Takes s (w.value.bytes ∷ []) w.rest
 word_takes k s w h = record { gives = λ ws left. word_of k s.bytes s.at w (there_some (text_end s) (next_word k s) w h) ws left }
@@ -80,7 +81,7 @@ keyword_reads wanted s ws h =
     }
 
 ranged : (lo hi : ℕ) (w : Step Spelled) (o : Option ℕ) (n : Step ℕ) → in_range lo hi w o ≡ Ok n → (o ≡ Some n.value) × (lo ≤ n.value) × (n.value ≤ hi) × (w.rest ≡ n.rest)
-ranged lo hi w None n h = impossible (cc)
+ranged lo hi w None n h = cc
 ranged lo hi w (Some m) n h =
     let p = cond_ok _ _ _ _ h in
     let f = ok_same p.1 in
@@ -118,10 +119,10 @@ number_reads lo hi n s ws a b small h =
       left = w.left;
     }
 
-nothing_none : (r : Result (Option (Step Spelled)) WordFault) → nothing_more r ≡ Ok tt → r ≡ Ok None
+nothing_none : (r : Result (Option (Step Spelled)) (Fault WordCause)) → nothing_more r ≡ Ok tt → r ≡ Ok None
 nothing_none (Ok None) h = refl
-nothing_none (Ok (Some w)) h = impossible (cc)
-nothing_none (Err f) h = impossible (cc)
+nothing_none (Ok (Some w)) h = cc
+nothing_none (Err f) h = cc
 
 pub end_takes : (s : Rest) → read_end s ≡ Ok tt → Spaced s.bytes []
 end_takes s h = end_of Keyword s.bytes s.at (nothing_none (next_word Keyword s) h)

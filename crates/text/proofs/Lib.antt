@@ -1,9 +1,5 @@
-pub mod Steps
 pub mod NameSteps
 pub mod RuleSteps
-pub mod Overlays
-pub mod EventNames
-pub mod SlotSteps
 pub mod Spacing
 pub mod Parts
 pub mod PlainNumbers
@@ -13,3 +9,4 @@ pub mod Ruling
 pub mod Listing
 pub mod Saying
 pub mod Standing
+pub mod Putting

@@ -9,7 +9,7 @@ use Rattle.text.specs.Words.{Rest, Step, Spelled}
 use Rattle.text.specs.Sections.{word_due, read_keyword, read_number}
 use Rattle.text.specs.ProfileText.{event_names, index_from, index_of, more_names, read_names, known, read_index}
 use Rattle.text.specs.Grammar.{Spaced, names_section, name_of, EachNew, NamesDiffer}
-use Rattle.text.proofs.Spacing.{impossible, Takes, takes_none, takes_then, takes_as}
+use Rattle.text.proofs.Spacing.{Takes, takes_none, takes_then, takes_as}
 use Rattle.text.proofs.Dues.{then_ok, then_is, ok_same, same_bytes, bytes_same, Reads, word_reads, word_takes, keyword_takes, keyword_reads, number_takes, number_reads}
 
 -- keys of a list that is grown at its end
@@ -48,7 +48,7 @@ pub record Found (ns : List (List ℕ)) (x : List ℕ) (j i : ℕ) : Type 0 wher
   pub name : get_or ns (i - j) [] ≡ x
 
 index_found : (ns : List (List ℕ)) (x : List ℕ) (j i : ℕ) → index_from j ns x ≡ Some i → Found ns x j i
-index_found [] x j i h = impossible (cc)
+index_found [] x j i h = cc
 index_found (n ∷ ns) x j i h =
     elim (cases_Bool (bytes_eq n x)) [
       | inl on ↦
@@ -85,7 +85,7 @@ index_new (m ∷ ns) x j n =
 
 -- names, one after the other
 pub cond_else : {T E : Type 0} (b : Bool) (x : Result T E) (f : E) (y : T) → cond b (Err f) x ≡ Ok y → (b ≡ false) × (x ≡ Ok y)
-cond_else true x f y h = impossible (cc)
+cond_else true x f y h = cc
 cond_else false x f y h = (refl, h)
 
 pub record NamesTaken (k : ℕ) (ns : List (List ℕ)) (s : Rest) (st : Step (List (List ℕ))) : Type 0 where
@@ -163,7 +163,7 @@ section_reads heading most ns s ws some few small differ h =
 
 -- a name that is looked up
 known_some : (w : Step Spelled) (o : Option ℕ) (st : Step ℕ) → known w o ≡ Ok st → (o ≡ Some st.value) × (w.rest ≡ st.rest)
-known_some w None st h = impossible (cc)
+known_some w None st h = cc
 known_some w (Some i) st h = let e = ok_same h in (ap (λ (x : Step ℕ). Some x.value) e, ap (λ (x : Step ℕ). x.rest) e)
 
 pub record IndexTaken (ns : List (List ℕ)) (s : Rest) (st : Step ℕ) : Type 0 where

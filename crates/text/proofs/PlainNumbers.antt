@@ -5,7 +5,6 @@ use Rattle.std.proofs.lemmas.Bool.Decides.{nat_tests}
 use Rattle.std.proofs.lemmas.Str.Parse.{IsNumeralModel, numerals_by_fold, digits_value_short}
 use Rattle.std.proofs.lemmas.Fmt.{decimal_digit, decimal_nonempty, first_decimal, length-decimal-le, digits_decimal, digits_value-decimal, decimal-digits_value}
 use Rattle.text.specs.Sections.{is_digit, digits_after, plain_number}
-use Rattle.text.proofs.Spacing.{impossible}
 
 abbrev value_from : ℕ → List ℕ → ℕ
 value_from n [] = n
@@ -39,10 +38,10 @@ number_reads_back n small =
 
 on_true : (b : Bool) (o : Option ℕ) (n : ℕ) → cond b o None ≡ Some n → (b ≡ true) × (o ≡ Some n)
 on_true true o n h = (refl, h)
-on_true false o n h = impossible (cc)
+on_true false o n h = cc
 
 on_false : (b : Bool) (o : Option ℕ) (n : ℕ) → cond b None o ≡ Some n → (b ≡ false) × (o ≡ Some n)
-on_false true o n h = impossible (cc)
+on_false true o n h = cc
 on_false false o n h = (refl, h)
 
 digits_read : (ds : List ℕ) (m n : ℕ) → digits_after ds m ≡ Some n → (digits_only ds ≡ true) × (value_from m ds ≡ n)

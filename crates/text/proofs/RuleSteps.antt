@@ -1,6 +1,6 @@
--- A rule that was read is lawful; one turn of the reading of rules.
-use Rattle.std.proofs.Common.{◌≡◌, ℕ, suc, ◌+◌, ◌-◌, ◌<◌, Bool, true, false, cond, ltb, leb, List, length, is_err, Some, None, Ok, Err, Option, Result, sym, refl, ap, ◌∙◌, arith}
-use Rattle.std.proofs.lemmas.Bool.{lt-ltb, eq-eqb, and_from, cond-true, cond-false}
+-- One turn of the reading of rules.
+use Rattle.std.proofs.Common.{◌≡◌, ℕ, suc, ◌+◌, ◌-◌, ◌<◌, Bool, true, false, cond, ltb, List, length, is_err, Some, None, Ok, Err, Result, sym, refl, ap, ◌∙◌, arith}
+use Rattle.std.proofs.lemmas.Bool.{lt-ltb, cond-true, cond-false}
 use Rattle.std.proofs.lemmas.List.Edits.{length-insert}
 use Rattle.ordered.specs.Insert.{place_of, present, insert_into}
 use Rattle.ordered.proofs.Scans.{goes, place_within}
@@ -9,16 +9,17 @@ use Rattle.profile.specs.declared.table.calls.NotAdded.TheVariants.{Double, Full
 use Rattle.profile.specs.declared.Kind.{Kind}
 use Rattle.profile.specs.declared.Kind.TheVariants as kind
 use Rattle.profile.specs.declared.Rule.{Rule}
-use Rattle.profile.specs.Kinds.{event_kind, symbols_used}
-use Rattle.profile.specs.Rules.{formed, lawful_rule, rule_le}
+use Rattle.profile.specs.Kinds.{event_kind}
+use Rattle.profile.specs.Rules.{lawful_rule, rule_le}
 use Rattle.profile.specs.Tables.{add_answer, add_after}
 use Rattle.text.specs.declared.fault.Place.{Place}
+use Rattle.text.specs.declared.fault.Cause.{Cause}
 use Rattle.text.specs.declared.fault.Fault.{Fault}
 use Rattle.text.specs.declared.fault.ProfileCause.TheVariants.{RuleTwice}
 use Rattle.text.specs.Faults.{profile_fault}
 use Rattle.text.specs.Words.{Rest, Step}
 use Rattle.text.specs.Sections.{and_then}
-use Rattle.text.specs.ProfileText.{used_by, read_rule, more_rules}
+use Rattle.text.specs.ProfileText.{read_rule, more_rules}
 
 pub kind_there : (e : ℕ) → e < 12 → (k : Kind) × (event_kind e ≡ Some k)
 kind_there e h = at (ltb e 4) (ltb e 8) (ltb e 12) (lt-ltb e 12 h) where
@@ -26,19 +27,6 @@ kind_there e h = at (ltb e 4) (ltb e 8) (ltb e 12) (lt-ltb e 12 h) where
   at true b d t = (kind.Open, refl)
   at false true d t = (kind.Step, refl)
   at false false d t = (kind.Close, ap (λ x. cond x (Some kind.Close) None) t)
-
-formed_from_used : (k : Kind) (u l : ℕ) → (leb 1 (symbols_used k) ≡ false → u ≡ 0) → (leb 2 (symbols_used k) ≡ false → l ≡ 0) → formed (Some k) u l ≡ true
-formed_from_used kind.Open u l hu hl = refl
-formed_from_used kind.Step u l hu hl = eq-eqb l 0 (hl refl)
-formed_from_used kind.Close u l hu hl = and_from _ _ (eq-eqb u 0 (hu refl)) (eq-eqb l 0 (hl refl))
-
-pub rule_read_lawful : (r : Rule) → r.state < 8 → r.next < 8 → r.top < 16 → r.upper < 16 → r.lower < 16 → r.event < 12 → (leb 1 (used_by (event_kind r.event)) ≡ false → r.upper ≡ 0) → (leb 2 (used_by (event_kind r.event)) ≡ false → r.lower ≡ 0) → lawful_rule event_kind r ≡ true
-rule_read_lawful r s n t u l e hu hl =
-    let k = kind_there r.event e in
-    let f : formed (event_kind r.event) r.upper r.lower ≡ true =
-    ap (λ (o : Option Kind). formed o r.upper r.lower) k.1 ∙
-    formed_from_used k.0 r.upper r.lower (λ z. hu (ap (λ (o : Option Kind). leb 1 (used_by o)) k.1 ∙ z)) (λ z. hl (ap (λ (o : Option Kind). leb 2 (used_by o)) k.1 ∙ z)) in
-    and_from _ _ (lt-ltb _ _ s) (and_from _ _ (lt-ltb _ _ n) (and_from _ _ (lt-ltb _ _ t) (and_from _ _ (lt-ltb _ _ u) (and_from _ _ (lt-ltb _ _ l) f))))
 
 -- a lawful rule finds room among fewer than 96, so that only a double is refused
 added : (r : Rule) (rs : List Rule) → lawful_rule event_kind r ≡ true → length rs < 96 → add_answer r rs ≡ cond (present rule_le r rs) (Err (Double (place_of rule_le r rs))) (Ok (place_of rule_le r rs))
@@ -59,22 +47,22 @@ taken_in r rs is a e law room new put =
 
 -- one more rule: i are read of n, rs are those in the table, and s is left
 module _ (states symbols events : List (List ℕ)) (n i : ℕ) (rs : List Rule) (s : Rest) (on : i < n) where
-  abbrev goes_on : Step (Rule × Place) → Result (Step (List Rule)) Fault
+  abbrev goes_on : Step (Rule × Place) → Result (Step (List Rule)) (Fault Cause)
   goes_on r =
       cond (present rule_le r.value.0 rs) (Err (profile_fault RuleTwice r.value.1))
       (more_rules states symbols events (n - (i + 1)) (insert_into rule_le r.value.0 rs) r.rest)
 
-  at_rule : (r : Result (Step (Rule × Place)) Fault) → r ≡ read_rule states symbols events s → more_rules states symbols events (n - i) rs s ≡ and_then r goes_on
+  at_rule : (r : Result (Step (Rule × Place)) (Fault Cause)) → r ≡ read_rule states symbols events s → more_rules states symbols events (n - i) rs s ≡ and_then r goes_on
   at_rule r e =
       let k : n - i ≡ suc (n - (i + 1)) = omega arith in
-      ap (λ m. more_rules states symbols events m rs s) k ∙ ap (λ (r : Result (Step (Rule × Place)) Fault). and_then r goes_on) (sym e)
+      ap (λ m. more_rules states symbols events m rs s) k ∙ ap (λ (r : Result (Step (Rule × Place)) (Fault Cause)). and_then r goes_on) (sym e)
 
-  pub rule_fault : (f : Fault) → Err f ≡ read_rule states symbols events s → Err f ≡ more_rules states symbols events (n - i) rs s
+  pub rule_fault : (f : Fault Cause) → Err f ≡ read_rule states symbols events s → Err f ≡ more_rules states symbols events (n - i) rs s
   rule_fault f e = sym (at_rule _ e)
 
   -- a is the table's answer
   module _ (w : Step (Rule × Place)) (a : Result ℕ NotAdded) (read : Ok w ≡ read_rule states symbols events s) (told : a ≡ add_answer w.value.0 rs) (law : lawful_rule event_kind w.value.0 ≡ true) (room : length rs < 96) where
-    pub rule_twice : (f : Fault) → true ≡ is_err a → f ≡ profile_fault RuleTwice w.value.1 → Err f ≡ more_rules states symbols events (n - i) rs s
+    pub rule_twice : (f : Fault Cause) → true ≡ is_err a → f ≡ profile_fault RuleTwice w.value.1 → Err f ≡ more_rules states symbols events (n - i) rs s
     rule_twice f old ef = ap Err ef ∙ sym (at_rule _ read ∙ cond-true _ _ _ (refused_twice w.value.0 rs a told law room ∙ sym old))
 
     pub rule_more : (is : List Rule) → false ≡ is_err a → is ≡ add_after w.value.0 rs a → (more_rules states symbols events (n - (i + 1)) is w.rest ≡ more_rules states symbols events (n - i) rs s) × (length is ≡ length rs + 1)

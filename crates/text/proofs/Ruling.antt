@@ -1,7 +1,7 @@
 -- Rules against the grammar.
 use Rattle.std.proofs.Common.{◌≡◌, ℕ, ◌<◌, Bool, true, false, leb, List, [], ◌∷◌, ◌++◌, length, Some, None, Ok, Option, Result, sym, refl, ap, ◌∙◌, subst, inl, inr, append_assoc, arith}
 use Rattle.std.specs.Str.{bytes_eq}
-use Rattle.std.proofs.lemmas.Bool.{cond-true, cond-false, cases_Bool, cases_lt, both_ways, le-ltb}
+use Rattle.std.proofs.lemmas.Bool.{cond-true, cond-false, cases_Bool, cases_lt, le-ltb}
 use Rattle.profile.specs.declared.Mode.{Mode}
 use Rattle.profile.specs.declared.Mode.TheVariants.{May, Must}
 use Rattle.profile.specs.declared.Kind.{Kind}
@@ -9,6 +9,7 @@ use Rattle.profile.specs.declared.Kind.TheVariants as kind
 use Rattle.profile.specs.declared.Rule.{Rule}
 use Rattle.profile.specs.Kinds.{event_kind, symbols_used}
 use Rattle.text.specs.declared.fault.Place.{Place}
+use Rattle.text.specs.declared.fault.Cause.{Cause}
 use Rattle.text.specs.declared.fault.Fault.{Fault}
 use Rattle.text.specs.declared.words.Due.TheVariants.{Keyword}
 use Rattle.text.specs.Words.{Rest, Step, Spelled}
@@ -25,7 +26,7 @@ pub mode_takes : (s : Rest) (st : Step (Mode × Place)) → read_mode s ≡ Ok s
 mode_takes s st e =
     let p = then_ok (word_due Keyword s) _ st e in
     let w : Step Spelled = p.0 in
-    let all : (m : Mode) → w.value.bytes ≡ mode_word m → ◌≡◌ {A = Result (Step (Mode × Place)) Fault} (Ok (record { value = (m, w.value.place); rest = w.rest })) (Ok st) → Takes s (mode_word st.value.0 ∷ []) st.rest =
+    let all : (m : Mode) → w.value.bytes ≡ mode_word m → ◌≡◌ {A = Result (Step (Mode × Place)) (Fault Cause)} (Ok (record { value = (m, w.value.place); rest = w.rest })) (Ok st) → Takes s (mode_word st.value.0 ∷ []) st.rest =
     λ m same h.
     (let f = ok_same h in
     subst (λ (x : Step (Mode × Place)). Takes s (mode_word x.value.0 ∷ []) x.rest) f (takes_as (ap (λ (l : List ℕ). l ∷ []) same) (word_takes Keyword s w p.1))) in
@@ -69,6 +70,12 @@ pub record Used (b : Bool) (m i : ℕ) : Type 0 where
   pub on : b ≡ true → i < m
   pub off : b ≡ false → i ≡ 0
 
+used : (m i : ℕ) → i < m → Used true m i
+used m i h = record { on = λ z. h; off = λ z. cc }
+
+unused : (m i : ℕ) → i ≡ 0 → Used false m i
+unused m i h = record { on = λ z. cc; off = λ z. h }
+
 pub record SymbolTaken (b : Bool) (ns : List (List ℕ)) (s : Rest) (st : Step ℕ) : Type 0 where
   pub used : Used b (length ns) st.value
   pub takes : Takes s (listed_if b ns st.value) st.rest
@@ -77,12 +84,12 @@ symbol_takes : (b : Bool) (ns : List (List ℕ)) (s : Rest) (st : Step ℕ) → 
 symbol_takes false ns s st h =
     let e = ok_same h in
     record {
-      used = record { on = λ z. absurd (both_ways false refl z); off = λ z. sym (ap (λ (x : Step ℕ). x.value) e) };
+      used = unused _ _ (sym (ap (λ (x : Step ℕ). x.value) e));
       takes = subst (λ (r : Rest). Takes s [] r) (ap (λ (x : Step ℕ). x.rest) e) (takes_none s);
     }
 symbol_takes true ns s st h =
     let i = index_takes ns s st h in
-    record { used = record { on = λ z. i.bound; off = λ z. absurd (both_ways true z refl) }; takes = i.takes }
+    record { used = used _ _ i.bound; takes = i.takes }
 
 symbol_reads : (b : Bool) (ns : List (List ℕ)) (i : ℕ) (s : Rest) (ws : List (List ℕ)) → NamesDiffer ns → Used b (length ns) i → Spaced s.bytes (listed_if b ns i ++ ws) → Reads (read_symbol_if b ns s) i ws
 symbol_reads false ns i s ws differ u h = record { step = record { value = 0; rest = s }; is = refl; value = sym (u.off refl); left = h }
@@ -102,9 +109,9 @@ named_from_used m kind.Close u l a b = (a.off refl, b.off refl)
 
 used_from_named : (m : ℕ) (k : Option Kind) (u l : ℕ) → SymbolsNamed m k u l → Used (leb 1 (used_by k)) m u × Used (leb 2 (used_by k)) m l
 used_from_named m None u l h = absurd h
-used_from_named m (Some kind.Open) u l h = (record { on = λ z. h.0; off = λ z. absurd (both_ways true z refl) }, record { on = λ z. h.1; off = λ z. absurd (both_ways true z refl) })
-used_from_named m (Some kind.Step) u l h = (record { on = λ z. h.0; off = λ z. absurd (both_ways true z refl) }, record { on = λ z. absurd (both_ways false refl z); off = λ z. h.1 })
-used_from_named m (Some kind.Close) u l h = (record { on = λ z. absurd (both_ways false refl z); off = λ z. h.0 }, record { on = λ z. absurd (both_ways false refl z); off = λ z. h.1 })
+used_from_named m (Some kind.Open) u l h = (used m u h.0, used m l h.1)
+used_from_named m (Some kind.Step) u l h = (used m u h.0, unused m l h.1)
+used_from_named m (Some kind.Close) u l h = (unused m u h.0, unused m l h.1)
 
 event_there : (m e u l : ℕ) → SymbolsNamed m (event_kind e) u l → e < 12
 event_there m e u l h =
@@ -153,14 +160,7 @@ pub record RuleRead (states symbols : List (List ℕ)) (r : Rule) (s : Rest) (ws
   pub left : Spaced step.rest.bytes ws
 
 rule_from_fields : (r : Rule) (mode : Mode) (state top event next upper lower : ℕ) → mode ≡ r.mode → state ≡ r.state → top ≡ r.top → event ≡ r.event → next ≡ r.next → upper ≡ r.upper → lower ≡ r.lower → ◌≡◌ {A = Rule} (record { mode = mode; state = state; top = top; event = event; next = next; upper = upper; lower = lower }) r
-rule_from_fields r mode state top event next upper lower em es et ee en eu el =
-    ap (λ (x : Mode). record { mode = x; state = state; top = top; event = event; next = next; upper = upper; lower = lower }) em ∙
-    ap (λ (x : ℕ). record { mode = r.mode; state = x; top = top; event = event; next = next; upper = upper; lower = lower }) es ∙
-    ap (λ (x : ℕ). record { mode = r.mode; state = r.state; top = x; event = event; next = next; upper = upper; lower = lower }) et ∙
-    ap (λ (x : ℕ). record { mode = r.mode; state = r.state; top = r.top; event = x; next = next; upper = upper; lower = lower }) ee ∙
-    ap (λ (x : ℕ). record { mode = r.mode; state = r.state; top = r.top; event = r.event; next = x; upper = upper; lower = lower }) en ∙
-    ap (λ (x : ℕ). record { mode = r.mode; state = r.state; top = r.top; event = r.event; next = r.next; upper = x; lower = lower }) eu ∙
-    ap (λ (x : ℕ). record { mode = r.mode; state = r.state; top = r.top; event = r.event; next = r.next; upper = r.upper; lower = x }) el
+rule_from_fields r mode state top event next upper lower em es et ee en eu el = rw (em, es, et, ee, en, eu, el)
 
 pub rule_reads : (states symbols : List (List ℕ)) (r : Rule) (s : Rest) (ws : List (List ℕ)) → NamesDiffer states → NamesDiffer symbols → Named (length states) (length symbols) r → Spaced s.bytes (rule_words states symbols r ++ ws) → RuleRead states symbols r s ws
 rule_reads states symbols r s ws ds dx n h =

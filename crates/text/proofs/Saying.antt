@@ -6,15 +6,16 @@ use Rattle.ordered.proofs.Orders.{same_elements_same_list}
 use Rattle.profile.specs.declared.Rule.{Rule}
 use Rattle.profile.specs.declared.table.Table.{Table}
 use Rattle.profile.specs.Rules.{rule_le}
+use Rattle.text.specs.declared.fault.WordCause.{WordCause}
+use Rattle.text.specs.declared.fault.Cause.{Cause}
 use Rattle.text.specs.declared.fault.Fault.{Fault}
-use Rattle.text.specs.declared.fault.WordFault.{WordFault}
 use Rattle.text.specs.declared.fault.WordCause.TheVariants.{TextTooLong}
 use Rattle.text.specs.Faults.{word_fault}
 use Rattle.text.specs.Words.{Rest, Step, begun, length_judged}
 use Rattle.text.specs.Sections.{read_keyword, read_number, read_end}
 use Rattle.text.specs.ProfileText.{event_names, read_index, read_names, more_rules, read_rules, read_start, read_body, read_sections, Reading, reading_of, judged, read_profile, ReadInto}
 use Rattle.text.specs.Grammar.{Spaced, names_section, name_of, rules_words, NamesDiffer, Says, Judged, OneReading}
-use Rattle.text.proofs.Spacing.{impossible, Takes, takes_then, takes_as}
+use Rattle.text.proofs.Spacing.{Takes, takes_then, takes_as}
 use Rattle.text.proofs.Dues.{then_ok, then_is, ok_same, Reads, keyword_takes, keyword_reads, number_takes, number_reads, end_takes, end_reads}
 use Rattle.text.proofs.Naming.{section_takes, section_reads, index_takes, index_reads}
 use Rattle.text.proofs.Listing.{rules_take, rules_read}
@@ -58,14 +59,14 @@ start_reads states symbols start s ws ds dx hs hx h =
     }
 
 -- the length of a text
-short_text : {T : Type 0} (t : List ℕ) (r : Result T Fault) (x : T) → judged (length_judged t) r ≡ Ok x → (length t ≤ 20000) × (r ≡ Ok x)
+pub short_text : {T : Type 0} (t : List ℕ) (r : Result T (Fault Cause)) (x : T) → judged (length_judged t) r ≡ Ok x → (length t ≤ 20000) × (r ≡ Ok x)
 short_text {T} t r x = at (leb (length t) 20000) refl where
   at : (b : Bool) → leb (length t) 20000 ≡ b → judged {T = T} (cond b (Ok tt) (Err (word_fault TextTooLong 0))) r ≡ Ok x → (length t ≤ 20000) × (r ≡ Ok x)
   at true e h = (leb-true (length t) 20000 e, h)
-  at false e h = impossible (cc)
+  at false e h = cc
 
-read_short : {T : Type 0} (t : List ℕ) (r : Result T Fault) → length t ≤ 20000 → judged (length_judged t) r ≡ r
-read_short {T} t r h = ap (λ (x : Result (Unit {0}) WordFault). judged {T = T} x r) (cond-true _ _ _ (le-leb (length t) 20000 h))
+pub read_short : {T : Type 0} (t : List ℕ) (r : Result T (Fault Cause)) → length t ≤ 20000 → judged (length_judged t) r ≡ r
+read_short {T} t r h = ap (λ (x : Result (Unit {0}) (Fault WordCause)). judged {T = T} x r) (cond-true _ _ _ (le-leb (length t) 20000 h))
 
 -- accepted texts say what was read
 pub accepted_says : (text : List ℕ) (p : Reading) → read_profile text ≡ Ok p → Says text p
@@ -138,9 +139,9 @@ said_accepted text p says =
 pub one_reading : OneReading
 one_reading text p q a b = ok_same (sym (said_accepted text p a) ∙ said_accepted text q b)
 
-refused_says : (text : List ℕ) (f : Fault) (p : Reading) → read_profile text ≡ Err f → Says text p → ⊥
-refused_says text f p e s = let g = sym (said_accepted text p s) ∙ e in impossible (cc)
+refused_says : (text : List ℕ) (f : Fault Cause) (p : Reading) → read_profile text ≡ Err f → Says text p → ⊥
+refused_says text f p e s = let g = sym (said_accepted text p s) ∙ e in cc
 
-pub judged_by_grammar : (text : List ℕ) (r : Result (Unit {0}) Fault) (was is : Table) → ReadInto text r was is → Judged text r is
+pub judged_by_grammar : (text : List ℕ) (r : Result (Unit {0}) (Fault Cause)) (was is : Table) → ReadInto text r was is → Judged text r is
 judged_by_grammar text (Ok done) was is h = (accepted_says text (reading_of is) h, λ p s. one_reading text p (reading_of is) s (accepted_says text (reading_of is) h))
 judged_by_grammar text (Err f) was is h = λ p s. refused_says text f p h.0 s

@@ -2,15 +2,13 @@
 use Rattle.std.proofs.Common.{◌≡◌, ℕ, suc, ◌+◌, ◌-◌, ◌≤◌, Bool, true, false, cond, leb, List, [], ◌∷◌, ◌++◌, length, take, drop, Some, None, Ok, Err, Result, sym, refl, ap, ◌∙◌, subst, inl, inr, append_assoc, arith}
 use Rattle.std.proofs.lemmas.List.{take_at, drop_at, take-append-drop}
 use Rattle.std.proofs.lemmas.Bool.{cond-true, cond-false, cases_Bool, and_parts, and_from, or_cases, or_left, or_right, or_from, eqb-true, eq-eqb, ne_eqb, leb-true, le-leb}
-use Rattle.text.specs.declared.fault.WordFault.{WordFault}
+use Rattle.text.specs.declared.fault.WordCause.{WordCause}
+use Rattle.text.specs.declared.fault.Fault.{Fault}
 use Rattle.text.specs.declared.fault.WordCause.TheVariants.{WordTooLong}
 use Rattle.text.specs.declared.words.Due.{Due}
-use Rattle.text.specs.Faults.{place_at, word_fault}
-use Rattle.text.specs.Words.{is_blank, is_visible, Rest, Step, Spelled, run_end, cut, cut_at, word_at, found, next_from}
+use Rattle.text.specs.Faults.{word_fault}
+use Rattle.text.specs.Words.{is_blank, is_visible, Rest, Step, Spelled, run_end, front, cut, cut_at, word_at, found, next_from}
 use Rattle.text.specs.Grammar.{Blank, Visible, IsWord, BlankOrEnd, Spaced, ends, blank, word}
-
-pub impossible : {P : Type 0} → ◌≡◌ {A = ℕ} 0 1 → P
-impossible z = absurd (omega arith)
 
 -- the tests say what the grammar says
 pub blank_from_test : (b : ℕ) → is_blank b ≡ true → Blank b
@@ -48,10 +46,10 @@ at_word k p (b ∷ w) t ws i h s =
     let e : (p + n) - p ≡ n = omega arith in
     let run = run_word (b ∷ w) t p i.visible h in
     let cutting : word_at k u p ≡ cut k n u p = ap (cut_at k u p) run ∙ ap (λ m. cut k m u p) e in
-    let whole : cut k n u p ≡ Ok (record { value = record { kind = k; bytes = take n u; place = place_at p }; rest = record { bytes = drop n u; at = p + n } }) =
+    let whole : cut k n u p ≡ Ok (front k n u p) =
     cond-true _ _ _ (le-leb n 16 i.short) in
     record {
-      step = record { value = record { kind = k; bytes = take n u; place = place_at p }; rest = record { bytes = drop n u; at = p + n } };
+      step = front k n u p;
       is = cond-false _ _ _ (visible_not_blank b i.visible.0) ∙ ap found (cutting ∙ whole);
       bytes = take_at (b ∷ w) t n refl;
       left = subst (λ (l : List ℕ). Spaced l ws) (sym (drop_at (b ∷ w) t n refl)) s;
@@ -101,10 +99,10 @@ pub run_of : (t : List ℕ) (p e : ℕ) → run_end t p ≡ Ok e → Run t p e
 run_of [] p e h = run_none [] p e (cc) tt
 run_of (b ∷ t) p e h =
     elim (cases_Bool (is_blank b)) [
-      | inl yes-blank ↦ (let g : ◌≡◌ {A = Result ℕ WordFault} (Ok p) (Ok e) = sym (cond-true _ _ _ yes-blank) ∙ h in run_none (b ∷ t) p e (cc) (blank_from_test b yes-blank))
+      | inl yes-blank ↦ (let g : ◌≡◌ {A = Result ℕ (Fault WordCause)} (Ok p) (Ok e) = sym (cond-true _ _ _ yes-blank) ∙ h in run_none (b ∷ t) p e (cc) (blank_from_test b yes-blank))
       | inr not-blank ↦ elim (cases_Bool (is_visible b)) [
         | inl seen ↦ run_one b t p e seen (run_of t (p + 1) e (sym (cond-true _ _ _ seen) ∙ sym (cond-false _ _ _ not-blank) ∙ h))
-        | inr hidden ↦ (let g = sym (cond-false _ _ _ hidden) ∙ sym (cond-false _ _ _ not-blank) ∙ h in impossible (cc))
+        | inr hidden ↦ (let g = sym (cond-false _ _ _ hidden) ∙ sym (cond-false _ _ _ not-blank) ∙ h in cc)
       ]
     ]
 
@@ -123,10 +121,10 @@ takes_then {s} {us = us} {vs = vs} p q = record {
 pub takes_as : {s e : Rest} {us vs : List (List ℕ)} → us ≡ vs → Takes s us e → Takes s vs e
 takes_as {s} {e} same p = subst (λ (l : List (List ℕ)). Takes s l e) same p
 
-cut_word : (k : Due) (b : ℕ) (t : List ℕ) (p n : ℕ) (st : Step Spelled) → Run (b ∷ t) p n → is_blank b ≡ false → 1 ≤ n - p → (d : Bool) → leb (n - p) 16 ≡ d → found (cond d (Ok (record { value = record { kind = k; bytes = take (n - p) (b ∷ t); place = place_at p }; rest = record { bytes = drop (n - p) (b ∷ t); at = p + (n - p) } })) (Err (word_fault WordTooLong p))) ≡ Ok (Some st) → (ws : List (List ℕ)) → Spaced st.rest.bytes ws → Spaced (b ∷ t) (st.value.bytes ∷ ws)
-cut_word k b t p n st r nb some false short h ws s = impossible (cc)
+cut_word : (k : Due) (b : ℕ) (t : List ℕ) (p n : ℕ) (st : Step Spelled) → Run (b ∷ t) p n → is_blank b ≡ false → 1 ≤ n - p → (d : Bool) → leb (n - p) 16 ≡ d → found (cond d (Ok (front k (n - p) (b ∷ t) p)) (Err (word_fault WordTooLong p))) ≡ Ok (Some st) → (ws : List (List ℕ)) → Spaced st.rest.bytes ws → Spaced (b ∷ t) (st.value.bytes ∷ ws)
+cut_word k b t p n st r nb some false short h ws s = cc
 cut_word k b t p n st r nb some true short h ws s =
-    let whole : ◌≡◌ {A = Step Spelled} (record { value = record { kind = k; bytes = take (n - p) (b ∷ t); place = place_at p }; rest = record { bytes = drop (n - p) (b ∷ t); at = p + (n - p) } }) st = cc in
+    let whole : ◌≡◌ {A = Step Spelled} (front k (n - p) (b ∷ t) p) st = cc in
     let front : take (n - p) (b ∷ t) ≡ st.value.bytes = ap (λ (x : Step Spelled). x.value.bytes) whole in
     let back : drop (n - p) (b ∷ t) ≡ st.rest.bytes = ap (λ (x : Step Spelled). x.rest.bytes) whole in
     let long = r.long in
@@ -140,24 +138,24 @@ pub run_some : (b : ℕ) (t : List ℕ) (p n : ℕ) → is_blank b ≡ false →
 run_some b t p n nb h =
     elim (cases_Bool (is_visible b)) [
       | inl seen ↦ (let r = run_of t (p + 1) n (sym (cond-true _ _ _ seen) ∙ sym (cond-false _ _ _ nb) ∙ h) in omega (arith, r.grows))
-      | inr hidden ↦ (let g = sym (cond-false _ _ _ hidden) ∙ sym (cond-false _ _ _ nb) ∙ h in impossible (cc))
+      | inr hidden ↦ (let g = sym (cond-false _ _ _ hidden) ∙ sym (cond-false _ _ _ nb) ∙ h in cc)
     ]
 
-at_cut : (k : Due) (b : ℕ) (t : List ℕ) (p : ℕ) (st : Step Spelled) → is_blank b ≡ false → (r : Result ℕ WordFault) → run_end (b ∷ t) p ≡ r → found (cut_at k (b ∷ t) p r) ≡ Ok (Some st) → (ws : List (List ℕ)) → Spaced st.rest.bytes ws → Spaced (b ∷ t) (st.value.bytes ∷ ws)
-at_cut k b t p st nb (Err f) e h ws s = impossible (cc)
+at_cut : (k : Due) (b : ℕ) (t : List ℕ) (p : ℕ) (st : Step Spelled) → is_blank b ≡ false → (r : Result ℕ (Fault WordCause)) → run_end (b ∷ t) p ≡ r → found (cut_at k (b ∷ t) p r) ≡ Ok (Some st) → (ws : List (List ℕ)) → Spaced st.rest.bytes ws → Spaced (b ∷ t) (st.value.bytes ∷ ws)
+at_cut k b t p st nb (Err f) e h ws s = cc
 at_cut k b t p st nb (Ok n) e h ws s = cut_word k b t p n st (run_of (b ∷ t) p n e) nb (run_some b t p n nb e) (leb (n - p) 16) refl h ws s
 
 pub word_of : (k : Due) (t : List ℕ) (p : ℕ) (st : Step Spelled) → next_from k t p ≡ Ok (Some st) → (ws : List (List ℕ)) → Spaced st.rest.bytes ws → Spaced t (st.value.bytes ∷ ws)
-word_of k [] p st h ws s = impossible (cc)
+word_of k [] p st h ws s = cc
 word_of k (b ∷ t) p st h ws s =
     elim (cases_Bool (is_blank b)) [
       | inl on ↦ blank (blank_from_test b on) (word_of k t (p + 1) st (sym (cond-true _ _ _ on) ∙ h) ws s)
       | inr off ↦ at_cut k b t p st off (run_end (b ∷ t) p) refl (sym (cond-false _ _ _ off) ∙ h) ws s
     ]
 
-not_none : (r : Result (Step Spelled) WordFault) → found r ≡ Ok None → ⊥
-not_none (Ok w) h = impossible (cc)
-not_none (Err f) h = impossible (cc)
+not_none : (r : Result (Step Spelled) (Fault WordCause)) → found r ≡ Ok None → ⊥
+not_none (Ok w) h = cc
+not_none (Err f) h = cc
 
 pub end_of : (k : Due) (t : List ℕ) (p : ℕ) → next_from k t p ≡ Ok None → Spaced t []
 end_of k [] p h = ends

@@ -12,7 +12,8 @@ use Rattle.profile.specs.Kinds.{event_kind}
 use Rattle.profile.specs.Rules.{rule_le}
 use Rattle.text.specs.declared.fault.Place.{Place}
 use Rattle.text.specs.declared.fault.WordCause.TheVariants.{TextTooLong, ByteNotAllowed}
-use Rattle.text.specs.declared.fault.WordFault.{WordFault}
+use Rattle.text.specs.declared.fault.WordCause.{WordCause}
+use Rattle.text.specs.declared.fault.Cause.{Cause}
 use Rattle.text.specs.declared.fault.Fault.{Fault}
 use Rattle.text.specs.declared.fault.Cause.TheVariants.{InWords}
 use Rattle.text.specs.declared.words.Due.{Due}
@@ -23,7 +24,7 @@ use Rattle.text.specs.Sections.{and_then, there, word_due, read_keyword, in_rang
 use Rattle.text.specs.ProfileText.{mode_word, event_names, index_of, more_names, read_names, known, read_index, read_mode, read_symbol_if, used_by, read_rule, more_rules, read_rules, read_start, read_body, read_sections, Reading, judged, read_profile, ReadInto}
 use Rattle.text.specs.Grammar.{Blank, Visible, BlankOrEnd}
 use Rattle.text.specs.Places.{byte_at, Begins, Stands, FaultStands}
-use Rattle.text.proofs.Spacing.{impossible, Run, run_of, run_some, blank_from_test, test_from_blank}
+use Rattle.text.proofs.Spacing.{Run, run_of, run_some, blank_from_test, test_from_blank}
 
 -- t is what the text has from p on
 pub record From (text t : List ℕ) (p : ℕ) : Type 0 where
@@ -40,18 +41,18 @@ first_is text t b p f =
     (inside, byte, record { most = omega arith; part = ap (drop 1) f.part ∙ drop-drop 1 p text })
 
 -- a run that meets a byte that is not allowed
-run_fault : (text t : List ℕ) (p : ℕ) (f : WordFault) → From text t p → run_end t p ≡ Err f → Stands text (InWords f.cause) f.place.offset
-run_fault text [] p f w h = impossible (cc)
+run_fault : (text t : List ℕ) (p : ℕ) (f : Fault WordCause) → From text t p → run_end t p ≡ Err f → Stands text (InWords f.cause) f.place.offset
+run_fault text [] p f w h = cc
 run_fault text (b ∷ t) p f w h =
     let first = first_is text t b p w in
     elim (cases_Bool (is_blank b)) [
-      | inl on ↦ (let g = sym (cond-true _ _ _ on) ∙ h in impossible (cc))
+      | inl on ↦ (let g = sym (cond-true _ _ _ on) ∙ h in cc)
       | inr off ↦ elim (cases_Bool (is_visible b)) [
         | inl seen ↦ run_fault text t (p + 1) f first.2 (sym (cond-true _ _ _ seen) ∙ sym (cond-false _ _ _ off) ∙ h)
         | inr hidden ↦
-            (let g : ◌≡◌ {A = Result ℕ WordFault} (Err (word_fault ByteNotAllowed p)) (Err f) = sym (cond-false _ _ _ hidden) ∙ sym (cond-false _ _ _ off) ∙ h in
+            (let g : ◌≡◌ {A = Result ℕ (Fault WordCause)} (Err (word_fault ByteNotAllowed p)) (Err f) = sym (cond-false _ _ _ hidden) ∙ sym (cond-false _ _ _ off) ∙ h in
             let same : word_fault ByteNotAllowed p ≡ f = cc in
-            subst (λ (x : WordFault). Stands text (InWords x.cause) x.place.offset) same (
+            subst (λ (x : Fault WordCause). Stands text (InWords x.cause) x.place.offset) same (
               first.0,
               (λ k. both_ways (is_blank b) off (test_from_blank b (subst Blank first.1 k))),
               λ lo hi. both_ways (is_visible b) hidden (and_from _ _ (le-leb 33 b (subst (λ n. 33 ≤ n) first.1 lo)) (le-leb b 126 (subst (λ n. n ≤ 126) first.1 hi))),
@@ -79,11 +80,11 @@ visible_front (suc n) (suc m) [] h v = tt
 visible_front (suc n) (suc m) (b ∷ t) h v = (v.0, v.1, visible_front n m t (omega arith) v.2)
 
 -- the outcome of a reading: what is left lies between two words and the value is as P says, or a fault stands where it should
-abbrev pub Fine : {T : Type 0} → List ℕ → (T → Type 0) → Result (Step T) Fault → Type 0
+abbrev pub Fine : {T : Type 0} → List ℕ → (T → Type 0) → Result (Step T) (Fault Cause) → Type 0
 Fine text P (Ok st) = Left text st.rest × P st.value
 Fine text P (Err f) = Stands text f.cause f.place.offset
 
-abbrev WordFine : List ℕ → Result (Option (Step Spelled)) WordFault → Type 0
+abbrev WordFine : List ℕ → Result (Option (Step Spelled)) (Fault WordCause) → Type 0
 WordFine text (Ok None) = Unit {0}
 WordFine text (Ok (Some w)) = Left text w.rest × Begins text w.value.place.offset
 WordFine text (Err f) = Stands text (InWords f.cause) f.place.offset
@@ -100,7 +101,7 @@ cut_fine k text t b p n f before off e r =
     let some : 1 ≤ n - p = run_some b t p n off e in
     let one : take 1 (b ∷ t) ≡ b ∷ [] = refl in
     let seen : (33 ≤ b) × (b ≤ 126) = (let v = visible_front (n - p) 1 (b ∷ t) some r.visible in (v.0, v.1)) in
-    cond_both (leb (n - p) 16) _ _ (λ (x : Result (Step Spelled) WordFault). WordFine text (found x))
+    cond_both (leb (n - p) 16) _ _ (λ (x : Result (Step Spelled) (Fault WordCause)). WordFine text (found x))
     (λ short. (record { from = record { most = omega arith; part = ap (drop (n - p)) f.part ∙ drop-drop (n - p) p text }; ready = inr r.after }, begins seen))
     (λ longer.
     (let q = leb-false (n - p) 16 longer in
@@ -114,12 +115,12 @@ next_fine k text (b ∷ t) p f r =
     cond_both (is_blank b) _ _ (WordFine text)
     (λ on. next_fine k text t (p + 1) first.2 (inl (inr (let e : (p + 1) - 1 ≡ p = omega arith in subst (λ i. Blank (byte_at text i)) (sym e) (subst Blank (sym first.1) (blank_from_test b on))))))
     (λ off. at (not_blank_ready text t b p off r) off (run_end (b ∷ t) p) refl) where
-      at : (p ≡ 0) ⊎ Blank (byte_at text (p - 1)) → is_blank b ≡ false → (x : Result ℕ WordFault) → run_end (b ∷ t) p ≡ x → WordFine text (found (cut_at k (b ∷ t) p x))
+      at : (p ≡ 0) ⊎ Blank (byte_at text (p - 1)) → is_blank b ≡ false → (x : Result ℕ (Fault WordCause)) → run_end (b ∷ t) p ≡ x → WordFine text (found (cut_at k (b ∷ t) p x))
       at before off (Ok n) e = cut_fine k text t b p n f before off e (run_of (b ∷ t) p n e)
       at before off (Err g) e = run_fault text (b ∷ t) p g f e
 
 -- one reading after another
-pub fine_then : {T U : Type 0} (text : List ℕ) (P : T → Type 0) (Q : U → Type 0) (r : Result (Step T) Fault) (f : Step T → Result (Step U) Fault) → Fine text P r → ((x : Step T) → Left text x.rest → P x.value → Fine text Q (f x)) → Fine text Q (and_then r f)
+pub fine_then : {T U : Type 0} (text : List ℕ) (P : T → Type 0) (Q : U → Type 0) (r : Result (Step T) (Fault Cause)) (f : Step T → Result (Step U) (Fault Cause)) → Fine text P r → ((x : Step T) → Left text x.rest → P x.value → Fine text Q (f x)) → Fine text Q (and_then r f)
 fine_then text P Q (Ok x) f h k = k x h.0 h.1
 fine_then text P Q (Err e) f h k = h
 
@@ -131,7 +132,7 @@ module _ (text : List ℕ) where
   abbrev AtWord : Spelled → Type 0
   AtWord w = Begins text w.place.offset
 
-  there_fine : (e : ℕ) (r : Result (Option (Step Spelled)) WordFault) → e ≡ length text → WordFine text r → Fine text AtWord (there e r)
+  there_fine : (e : ℕ) (r : Result (Option (Step Spelled)) (Fault WordCause)) → e ≡ length text → WordFine text r → Fine text AtWord (there e r)
   there_fine e (Ok None) whole h = inl whole
   there_fine e (Ok (Some w)) whole h = h
   there_fine e (Err f) whole h = h
@@ -220,15 +221,15 @@ module _ (text : List ℕ) where
       fine_then text Any Any (read_index symbols state.rest) _ (index_fine symbols state.rest left) (λ symbol left _. (left, tt)))))
 
   -- at the end, a fault stands where it should
-  abbrev Told : {T : Type 0} → Result T Fault → Type 0
+  abbrev Told : {T : Type 0} → Result T (Fault Cause) → Type 0
   Told (Ok x) = Unit {0}
   Told (Err f) = Stands text f.cause f.place.offset
 
-  told_then : {T U : Type 0} (P : T → Type 0) (r : Result (Step T) Fault) (f : Step T → Result U Fault) → Fine text P r → ((x : Step T) → Left text x.rest → Told (f x)) → Told (and_then r f)
+  told_then : {T U : Type 0} (P : T → Type 0) (r : Result (Step T) (Fault Cause)) (f : Step T → Result U (Fault Cause)) → Fine text P r → ((x : Step T) → Left text x.rest → Told (f x)) → Told (and_then r f)
   told_then P (Ok x) f h k = k x h.0
   told_then P (Err e) f h k = h
 
-  nothing_told : {U : Type 0} (r : Result (Option (Step Spelled)) WordFault) (y : U) → WordFine text r → Told (and_then (nothing_more r) (λ done. Ok y))
+  nothing_told : {U : Type 0} (r : Result (Option (Step Spelled)) (Fault WordCause)) (y : U) → WordFine text r → Told (and_then (nothing_more r) (λ done. Ok y))
   nothing_told (Ok None) y h = tt
   nothing_told (Ok (Some w)) y h = inr h.1
   nothing_told (Err f) y h = h
@@ -246,13 +247,13 @@ module _ (text : List ℕ) where
       told_then Any (read_names (codes "symbols") 16 states.rest) _ (section_fine (codes "symbols") 16 states.rest left) (λ symbols left.
       body_told states.value symbols.value events symbols.rest left))
 
-  length_told : (b : Bool) → leb (length text) 20000 ≡ b → (r : Result Reading Fault) → Told r → Told (judged (cond b (Ok tt) (Err (word_fault TextTooLong 0))) r)
+  length_told : (b : Bool) → leb (length text) 20000 ≡ b → (r : Result Reading (Fault Cause)) → Told r → Told (judged (cond b (Ok tt) (Err (word_fault TextTooLong 0))) r)
   length_told true e r h = h
   length_told false e r h = (leb-false (length text) 20000 e, refl)
 
   profile_told : Told (read_profile text)
   profile_told = length_told (leb (length text) 20000) refl (read_sections event_names (begun text)) (sections_told event_names)
 
-  pub fault_stands : (r : Result (Unit {0}) Fault) (was is : Table) → ReadInto text r was is → FaultStands text r
+  pub fault_stands : (r : Result (Unit {0}) (Fault Cause)) (was is : Table) → ReadInto text r was is → FaultStands text r
   fault_stands (Ok done) was is h = tt
-  fault_stands (Err f) was is h = subst (λ (x : Result Reading Fault). Told x) h.0 profile_told
+  fault_stands (Err f) was is h = subst (λ (x : Result Reading (Fault Cause)). Told x) h.0 profile_told

@@ -9,7 +9,6 @@ use Rattle.text.specs.declared.fault.ProfileCause.{ProfileCause}
 use Rattle.text.specs.declared.fault.ProfileCause.TheVariants.{NameUnknown, NameTwice, RuleTwice}
 use Rattle.text.specs.declared.fault.Cause.{Cause}
 use Rattle.text.specs.declared.fault.Cause.TheVariants.{InWords, InSections, InProfile}
-use Rattle.text.specs.declared.fault.WordFault.{WordFault}
 use Rattle.text.specs.declared.fault.Fault.{Fault}
 
 abbrev pub cause_number : Cause → ℕ
@@ -31,15 +30,15 @@ cause_layer (InProfile c) = 3
 abbrev pub place_at : ℕ → Place
 place_at offset = record { offset = offset }
 
-abbrev pub word_fault : WordCause → ℕ → WordFault
+abbrev pub word_fault : WordCause → ℕ → Fault WordCause
 word_fault c offset = record { cause = c; place = place_at offset }
 
 -- a fault of the words, as a fault of the text
-abbrev pub word_fault_in : WordFault → Fault
+abbrev pub word_fault_in : Fault WordCause → Fault Cause
 word_fault_in f = record { cause = InWords f.cause; place = f.place }
 
-abbrev pub section_fault : SectionCause → Place → Fault
+abbrev pub section_fault : SectionCause → Place → Fault Cause
 section_fault c p = record { cause = InSections c; place = p }
 
-abbrev pub profile_fault : ProfileCause → Place → Fault
+abbrev pub profile_fault : ProfileCause → Place → Fault Cause
 profile_fault c p = record { cause = InProfile c; place = p }

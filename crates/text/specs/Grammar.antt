@@ -8,6 +8,7 @@ use Rattle.profile.specs.declared.Rule.{Rule}
 use Rattle.profile.specs.declared.table.Table.{Table}
 use Rattle.profile.specs.Kinds.{event_kind}
 use Rattle.profile.specs.Rules.{rule_key, rule_le}
+use Rattle.text.specs.declared.fault.Cause.{Cause}
 use Rattle.text.specs.declared.fault.Fault.{Fault}
 use Rattle.text.specs.ProfileText.{mode_word, event_names, Reading, reading_of}
 
@@ -121,7 +122,7 @@ pub record Says (text : List ℕ) (p : Reading) : Type 0 where
 
 -- What a reading into a table comes to, by the grammar: an accepted text says what the table then holds and nothing
 -- else, a refused one says nothing.
-abbrev pub Judged : List ℕ → Result (Unit {0}) Fault → Table → Type 0
+abbrev pub Judged : List ℕ → Result (Unit {0}) (Fault Cause) → Table → Type 0
 Judged text (Ok done) t = Says text (reading_of t) × ((p : Reading) → Says text p → p ≡ reading_of t)
 Judged text (Err f) t = (p : Reading) → Says text p → ⊥
 

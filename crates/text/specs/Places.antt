@@ -32,6 +32,6 @@ Stands text (InSections WordNotDue) o = (o ≡ length text) ⊎ Begins text o
 Stands text (InSections NumberNotDue) o = Begins text o
 Stands text (InProfile c) o = Begins text o
 
-abbrev pub FaultStands : List ℕ → Result (Unit {0}) Fault → Type 0
+abbrev pub FaultStands : List ℕ → Result (Unit {0}) (Fault Cause) → Type 0
 FaultStands text (Ok done) = Unit {0}
 FaultStands text (Err f) = Stands text f.cause f.place.offset

@@ -1,12 +1,12 @@
 -- What is told of a profile text: its reading, slot by slot, or its fault.
 use Rattle.std.specs.Prelude.{ℕ, ◌+◌, Bool, true, false, List, [], ◌∷◌, ◌++◌, Ok, Err, codes, decimal, Result, nat_le, slice_index_or}
 use Rattle.profile.specs.declared.Rule.{Rule}
-use Rattle.profile.specs.declared.table.Table.{Table}
 use Rattle.profile.specs.Kinds.{event_kind}
+use Rattle.text.specs.declared.fault.Cause.{Cause}
 use Rattle.text.specs.declared.fault.Fault.{Fault}
 use Rattle.text.specs.declared.fault.Place.{Place}
 use Rattle.text.specs.Faults.{cause_number, cause_layer}
-use Rattle.text.specs.ProfileText.{mode_word, event_names, used_by, Reading, reading_of, read_profile}
+use Rattle.text.specs.ProfileText.{mode_word, event_names, used_by, Reading, read_profile}
 
 -- the end of a line
 abbrev pub line_end : List ℕ
@@ -47,22 +47,17 @@ abbrev pub shown_place : Place → List ℕ
 shown_place p = codes " place" ++ shown_number p.offset
 
 -- refusal N layer L place P
-abbrev pub refusal_line : Fault → List ℕ
+abbrev pub refusal_line : Fault Cause → List ℕ
 refusal_line f =
     codes "refusal" ++ shown_number (cause_number f.cause) ++ codes " layer" ++ shown_number (cause_layer f.cause) ++ shown_place f.place ++ line_end
 
 abbrev pub accepted_lines : Reading → List ℕ
 accepted_lines p = codes "accepted" ++ line_end ++ slot_lines 0 p.rules ++ start_line p.start
 
-abbrev pub report_of : Result Reading Fault → List ℕ
+abbrev pub report_of : Result Reading (Fault Cause) → List ℕ
 report_of (Ok p) = accepted_lines p
 report_of (Err f) = refusal_line f
 
 -- all that is told of a text
 abbrev pub lint_bytes : List ℕ → List ℕ
 lint_bytes text = report_of (read_profile text)
-
--- what the code holds of an outcome
-abbrev pub outcome : Result (Unit {0}) Fault → Table → Result Reading Fault
-outcome (Ok done) t = Ok (reading_of t)
-outcome (Err f) t = Err f

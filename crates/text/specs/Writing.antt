@@ -1,18 +1,13 @@
 -- Writing into bytes that a caller lends.
-use Rattle.std.specs.Prelude.{◌≡◌, ℕ, zero, suc, ◌+◌, cond, List, [], ◌∷◌, ◌++◌, length, drop, Ok, Err, Result, nat_le}
+use Rattle.std.specs.Prelude.{◌≡◌, ℕ, ◌+◌, ◌≤◌, cond, List, ◌++◌, length, take, drop, Ok, Err, Result, nat_le}
 use Rattle.text.specs.declared.write.TooFewBytes.{TooFewBytes}
+use Rattle.text.specs.declared.write.Lent.{Lent}
 
--- the lent bytes with some others laid over them from a place on; what would lie past their end is left out
-abbrev pub overlay : List ℕ → ℕ → List ℕ → List ℕ
-overlay [] at bs = []
-overlay (o ∷ os) zero [] = o ∷ os
-overlay (o ∷ os) zero (b ∷ bs) = b ∷ overlay os zero bs
-overlay (o ∷ os) (suc at) bs = o ∷ overlay os at bs
-
--- `bs` was written from `at` on, and ends at `end`: `was` and `is` are the lent bytes before and after
-pub record Wrote (was : List ℕ) (at : ℕ) (bs : List ℕ) (end : ℕ) (is : List ℕ) : Type 0 where
-  pub laid : is ≡ overlay was at bs
-  pub ends : end ≡ at + length bs
+-- `bs` was put where the next byte goes: written there if it fits, and counted in any case
+pub record Puts (was : Lent) (bs : List ℕ) (is : Lent) : Type 0 where
+  pub same : is.out.ghost_name ≡ was.out.ghost_name
+  pub laid : was.at + length bs ≤ length was.out.now → is.out.now ≡ take was.at was.out.now ++ bs ++ drop (was.at + length bs) was.out.now
+  pub ends : is.at ≡ was.at + length bs
 
 -- A whole text is written, and its length told; where fewer bytes are lent than it needs, that is refused.
 abbrev pub write_answer : List ℕ → List ℕ → Result ℕ TooFewBytes

@@ -1,7 +1,7 @@
 // Faults of a text: a cause, which tells its number and its layer, and a place.
 ghost use Rattle.std.specs.Prelude.{◌≡◌};
 ghost use Rattle.text.specs.Faults.{cause_number, cause_layer, word_fault_in};
-ghost use Rattle.text.specs.declared.fault.Cause.TheVariants.{InSections, InProfile};
+ghost use Rattle.text.specs.declared.fault.Cause.TheVariants.{InWords, InSections, InProfile};
 
 // Where in a text something stands. Only the words make places, and only the report prints them.
 #[derive(Clone, Copy, PartialEq, Eq, Debug)]
@@ -48,8 +48,32 @@ pub enum Cause {
     InProfile(ProfileCause),
 }
 
+impl From<WordCause> for Cause {
+    ghost from_gives = { λ c r. r ≡ InWords c };
+
+    fn from(cause: WordCause) -> Cause {
+        Cause::InWords(cause)
+    }
+}
+
+impl From<SectionCause> for Cause {
+    ghost from_gives = { λ c r. r ≡ InSections c };
+
+    fn from(cause: SectionCause) -> Cause {
+        Cause::InSections(cause)
+    }
+}
+
+impl From<ProfileCause> for Cause {
+    ghost from_gives = { λ c r. r ≡ InProfile c };
+
+    fn from(cause: ProfileCause) -> Cause {
+        Cause::InProfile(cause)
+    }
+}
+
 impl Cause {
-    // The number by which the cause is told.
+    // The number by which the cause is told. By cases: all numbers that partners are told stand in one table.
     pub fn number(self) -> u8
         ensures { result ≡ cause_number self }
     {
@@ -77,49 +101,30 @@ impl Cause {
     }
 }
 
-// A fault of the words alone, as the first layer finds it.
+// A fault of a text, whichever layer found it. The first layer finds a `Fault<WordCause>`, of the words alone.
 #[derive(Clone, Copy, PartialEq, Eq, Debug)]
-pub struct WordFault {
-    pub cause: WordCause,
+pub struct Fault<C = Cause> {
+    pub cause: C,
     pub place: Place,
 }
 
-// A fault of a text, whichever layer found it.
-#[derive(Clone, Copy, PartialEq, Eq, Debug)]
-pub struct Fault {
-    pub cause: Cause,
-    pub place: Place,
-}
-
-impl Fault {
-    // A fault of the sections.
-    pub fn section(cause: SectionCause, place: Place) -> Fault
-        ensures { result ≡ record { cause = InSections cause; place = place } }
+impl<C> Fault<C> {
+    // A fault whose cause may be that of one layer.
+    pub fn new<L: Into<C>>(cause: L, place: Place) -> Fault<C>
+        ensures cause { L.converts cause result.cause }
+        ensures place { result.place ≡ place }
     {
         Fault {
-            cause: Cause::InSections(cause),
-            place,
-        }
-    }
-
-    // A fault of the profile.
-    pub fn profile(cause: ProfileCause, place: Place) -> Fault
-        ensures { result ≡ record { cause = InProfile cause; place = place } }
-    {
-        Fault {
-            cause: Cause::InProfile(cause),
+            cause: cause.into(),
             place,
         }
     }
 }
 
-impl From<WordFault> for Fault {
+impl From<Fault<WordCause>> for Fault {
     ghost from_gives = { λ f r. r ≡ word_fault_in f };
 
-    fn from(f: WordFault) -> Fault {
-        Fault {
-            cause: Cause::InWords(f.cause),
-            place: f.place,
-        }
+    fn from(f: Fault<WordCause>) -> Fault {
+        Fault::new(f.cause, f.place)
     }
 }

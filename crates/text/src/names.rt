@@ -1,34 +1,25 @@
 // Names: the words that a section lists, numbered by their position.
-ghost use Rattle.std.specs.Prelude.{◌≡◌, ◌<◌, ◌≤◌, [], length, IfSome, IfOk};
-ghost use Rattle.text.specs.Words.{rest_of};
+ghost use Rattle.std.specs.Prelude.{◌≡◌, ◌^◌, ◌<◌, ◌≤◌, [], length, IfSome};
 ghost use Rattle.text.specs.Report.{event_name};
-ghost use Rattle.text.specs.ProfileText.{texts, mode_word, event_names, index_of, more_names, read_names, named};
+ghost use Rattle.text.specs.ProfileText.{texts, mode_word, index_of, more_names, read_names, named};
 
 use crate::fault::{Fault, ProfileCause};
 use crate::reader::Reader;
-use crate::sections::{alike, keyword, number, word_due};
+use crate::sections::{keyword, number, word_due};
 use crate::words::Due;
+use arrayvec::ArrayVec;
 use profile::Mode;
 
-// Up to 16 names, each a part of the text; the first `count` places are held.
-#[derive(Clone, Copy)]
-pub(crate) struct Names<'a> {
-    pub(crate) list: [&'a [u8]; 16],
-    pub(crate) count: usize,
-}
+// At most N names, each a part of the text.
+pub(crate) type Names<'a, const N: usize> = ArrayVec<&'a [u8], N>;
 
 // The names of the events, from event 0 on.
-pub(crate) fn event_list() -> [&'static [u8]; 12]
-    ensures names { texts result ≡ event_names }
-    ensures count { length result ≡ 12 }
-{
-    [
-        b"trigger", b"calib", b"upload", b"service", b"sample", b"gap", b"resend", b"clock",
-        b"end", b"caldone", b"sent", b"leave",
-    ]
-}
+pub(crate) const EVENTS: [&[u8]; 12] = [
+    b"trigger", b"calib", b"upload", b"service", b"sample", b"gap", b"resend", b"clock", b"end",
+    b"caldone", b"sent", b"leave",
+];
 
-// The word for a mode.
+// The word for a mode. A function: `Mode` is another crate's, which knows no words, so that no `From` can stand here.
 pub(crate) fn mode_word(mode: Mode) -> &'static [u8]
     ensures word { result.now ≡ mode_word mode }
     ensures bound { length result.now ≤ 4 }
@@ -44,12 +35,7 @@ pub(crate) fn event_name(event: u8) -> &'static [u8]
     ensures word { result.now ≡ event_name event }
     ensures bound { length result.now ≤ 7 }
 {
-    let names = event_list();
-    if event < 12 {
-        names[event as usize]
-    } else {
-        b""
-    }
+    EVENTS.get(usize::from(event)).copied().unwrap_or(b"")
 }
 
 // The number of a name: its position among the names.
@@ -57,42 +43,34 @@ pub(crate) fn position(names: &[&[u8]], name: &[u8]) -> Option<usize>
     ensures value { result ≡ index_of (texts names.now) name.now }
     ensures bound { IfSome result (λ i. i < length names.now) }
 {
-    for i in 0..names.len() {
-        if alike(names[i], name) {
-            return Some(i);
-        }
-    }
-    None
+    names.iter().position(|n| *n == name)
 }
 
 // Reads `n` names, none of them twice.
-fn name_list<'a>(reader: &mut Reader<'a>, n: usize) -> Result<Names<'a>, Fault>
-    requires { n ≤ 16 }
-    ensures value { named result reader.new ≡ more_names n [] (rest_of reader.old) }
-    ensures count { IfOk result (λ ns. ns.count ≡ n) }
+fn name_list<'a, const N: usize>(reader: &mut Reader<'a>, n: usize) -> Result<Names<'a, N>, Fault>
+    requires { n ≤ N }
+    ensures { named result reader.new ≡ more_names n [] reader.old }
 {
-    let mut list: [&'a [u8]; 16] = [b""; 16];
-    for i in 0..n {
+    let mut names = ArrayVec::new();
+    for _ in 0..n {
         let word = word_due(reader, Due::Name)?;
-        if position(&list[0..i], word.bytes()).is_some() {
-            return Err(Fault::profile(ProfileCause::NameTwice, word.place()));
+        if position(names.as_slice(), word.bytes()).is_some() {
+            return Err(Fault::new(ProfileCause::NameTwice, word.place()));
         }
-        list[i] = word.bytes();
+        names.push(word.bytes());
     }
-    Ok(Names { list, count: n })
+    Ok(names)
 }
 
-// Reads a section of names: its heading, a count from 1 to `most`, and that many names.
-pub(crate) fn name_section<'a>(
+// Reads a section of names: its heading, a count from 1 to N, and that many names.
+pub(crate) fn name_section<'a, const N: usize>(
     reader: &mut Reader<'a>,
     heading: &[u8],
-    most: u16,
-) -> Result<Names<'a>, Fault>
-    requires { most ≤ 16 }
-    ensures value { named result reader.new ≡ read_names heading.now most (rest_of reader.old) }
-    ensures count { IfOk result (λ ns. ns.count ≤ most) }
+) -> Result<Names<'a, N>, Fault>
+    requires { N < 2 ^ 16 }
+    ensures { named result reader.new ≡ read_names heading.now N reader.old }
 {
     keyword(reader, heading)?;
-    let n = number(reader, 1, most)?;
-    name_list(reader, n as usize)
+    let n = number(reader, 1, N as u16)?;
+    name_list(reader, usize::from(n))
 }

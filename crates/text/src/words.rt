@@ -1,9 +1,9 @@
 // Words (layer 1): runs of visible bytes between blanks, each a part of the text that was handed over.
-ghost use Rattle.std.specs.Prelude.{◌≡◌, ◌+◌, ◌^◌, ◌<◌, ◌≤◌, length, IfOk};
+ghost use Rattle.std.specs.Prelude.{◌≡◌, ◌≤◌, IfOk, OnErr};
 ghost use Rattle.text.specs.Faults.{place_at};
-ghost use Rattle.text.specs.Words.{is_blank, is_visible, run_end, word_at, next_word, left_after, begun, length_judged, rest_of, spelled, seen, parted, text_end, BlanksGone, WordIsPart};
+ghost use Rattle.text.specs.Words.{is_blank, run_end, word_at, next_word, begun, length_judged, spelled, taken, seen, text_end, GoesOn, BlanksGone, WordIsPart};
 
-use crate::fault::{Place, WordCause, WordFault};
+use crate::fault::{Fault, Place, WordCause};
 use crate::reader::Reader;
 
 // What the reader of a text has to come to next. Words have no class of their own: what is due decides how one is read.
@@ -14,7 +14,8 @@ pub enum Due {
     Name,
 }
 
-// A word, as what it is due: its bytes, which are a part of the text, and its place.
+// A word, as what it is due: its bytes, which are a part of the text, and its place. A case for each due, so that a
+// match sees what the word was read as.
 #[derive(Clone, Copy)]
 pub enum Word<'a> {
     Keyword(&'a [u8], Place),
@@ -37,9 +38,7 @@ impl<'a> Word<'a> {
         ensures { result.now ≡ (spelled self.entry).bytes }
     {
         match self {
-            Word::Keyword(bytes, _) => bytes,
-            Word::Number(bytes, _) => bytes,
-            Word::Name(bytes, _) => bytes,
+            Word::Keyword(bytes, _) | Word::Number(bytes, _) | Word::Name(bytes, _) => bytes,
         }
     }
 
@@ -47,9 +46,7 @@ impl<'a> Word<'a> {
         ensures { result ≡ (spelled self.entry).place }
     {
         match self {
-            Word::Keyword(_, place) => place,
-            Word::Number(_, place) => place,
-            Word::Name(_, place) => place,
+            Word::Keyword(_, place) | Word::Number(_, place) | Word::Name(_, place) => place,
         }
     }
 }
@@ -57,66 +54,15 @@ impl<'a> Word<'a> {
 fn is_blank(b: u8) -> bool
     ensures { result ≡ is_blank b }
 {
-    b == 32 || b == 10
-}
-
-fn is_visible(b: u8) -> bool
-    ensures { result ≡ is_visible b }
-{
-    33 <= b && b <= 126
-}
-
-// The offset where the run of bytes at the front that are not blank ends.
-fn run_end(text: &[u8], at: usize) -> Result<usize, WordFault>
-    requires { at + length text.now < 2 ^ 64 }
-    ensures value { result ≡ run_end text.now at }
-    ensures bound { IfOk result (λ e. (at ≤ e) × (e ≤ at + length text.now)) }
-{
-    let mut rest = text;
-    let mut end = at;
-    while let [b, more @ ..] = rest {
-        if is_blank(*b) {
-            return Ok(end);
-        }
-        if !is_visible(*b) {
-            return Err(WordFault {
-                cause: WordCause::ByteNotAllowed,
-                place: Place { offset: end },
-            });
-        }
-        end += 1;
-        rest = more;
-    }
-    Ok(end)
-}
-
-// The word at the front of `text`, and what follows it.
-fn word_at<'a>(due: Due, text: &'a [u8], at: usize) -> Result<(Word<'a>, &'a [u8]), WordFault>
-    requires { at + length text.now < 2 ^ 64 }
-    ensures value { parted result at ≡ word_at due text.now at }
-    ensures whole { IfOk result (λ w. length (spelled w.0).bytes + length w.1.now ≡ length text.now) }
-{
-    let n = run_end(text, at)? - at;
-    let place = Place { offset: at };
-    if n > 16 {
-        return Err(WordFault {
-            cause: WordCause::WordTooLong,
-            place,
-        });
-    }
-    let (bytes, rest) = text.split_at(n);
-    Ok((Word::new(due, bytes, place), rest))
+    matches!(b, b' ' | b'\n')
 }
 
 // Refuses a text of over 20,000 bytes, before any of it is read.
-pub fn judge_length(text: &[u8]) -> Result<(), WordFault>
+pub fn judge_length(text: &[u8]) -> Result<(), Fault<WordCause>>
     ensures { result ≡ length_judged text.now }
 {
     if text.len() > 20000 {
-        return Err(WordFault {
-            cause: WordCause::TextTooLong,
-            place: Place { offset: 0 },
-        });
+        return Err(Fault::new(WordCause::TextTooLong, Place { offset: 0 }));
     }
     Ok(())
 }
@@ -124,32 +70,68 @@ pub fn judge_length(text: &[u8]) -> Result<(), WordFault>
 impl<'a> Reader<'a> {
     // Begins to read a text.
     pub fn new(text: &'a [u8]) -> Reader<'a>
-        ensures { rest_of result ≡ begun text.now }
+        ensures { result ≡ begun text.now }
     {
         Reader { rest: text, at: 0 }
     }
 
     // The place where the text ends.
     pub fn end(&self) -> Place
-        ensures { result ≡ place_at (text_end (rest_of self.now)) }
+        ensures { result ≡ place_at (text_end self.now) }
     {
         Place {
             offset: self.at + self.rest.len(),
         }
     }
 
-    // Skips blanks and takes the next word, if there is one.
-    fn advance(&mut self, due: Due) -> Result<Option<Word<'a>>, WordFault>
-        ensures value { seen result self.new ≡ next_word due (rest_of self.old) }
-        ensures left { BlanksGone result (rest_of self.old) self.new }
-        ensures end { text_end (rest_of self.new) ≡ text_end (rest_of self.old) }
+    // The offset where the run of bytes at the front that are not blank ends.
+    fn run_end(&self) -> Result<usize, Fault<WordCause>>
+        ensures value { result ≡ run_end self.now.bytes self.now.at }
+        ensures bound { IfOk result (λ e. (self.now.at ≤ e) × (e ≤ text_end self.now)) }
     {
+        // Byte by byte: a text is taken apart as its first byte and the rest.
+        let mut rest = self.rest;
+        let mut end = self.at;
+        while let [b, more @ ..] = rest {
+            if is_blank(*b) {
+                return Ok(end);
+            }
+            if !b.is_ascii_graphic() {
+                return Err(Fault::new(WordCause::ByteNotAllowed, Place { offset: end }));
+            }
+            end += 1;
+            rest = more;
+        }
+        Ok(end)
+    }
+
+    // Takes the word at the front, read as what is due; a fault takes nothing.
+    fn take_word(&mut self, due: Due) -> Result<Word<'a>, Fault<WordCause>>
+        ensures value { taken result self.new ≡ word_at due self.old.bytes self.old.at }
+        ensures kept { OnErr result (self.new ≡ self.old) }
+        ensures end { text_end self.new ≡ text_end self.old }
+    {
+        let n = self.run_end()? - self.at;
+        let place = Place { offset: self.at };
+        if n > 16 {
+            return Err(Fault::new(WordCause::WordTooLong, place));
+        }
+        let (bytes, rest) = self.rest.split_at(n);
+        self.rest = rest;
+        self.at += n;
+        Ok(Word::new(due, bytes, place))
+    }
+
+    // Skips blanks and takes the next word, if there is one.
+    fn advance(&mut self, due: Due) -> Result<Option<Word<'a>>, Fault<WordCause>>
+        ensures value { seen result self.new ≡ next_word due self.old }
+        ensures left { BlanksGone result self.old self.new }
+        ensures end { text_end self.new ≡ text_end self.old }
+    {
+        // Byte by byte, as a run.
         while let [b, more @ ..] = self.rest {
             if !is_blank(*b) {
-                let (word, after) = word_at(due, self.rest, self.at)?;
-                self.rest = after;
-                self.at += word.bytes().len();
-                return Ok(Some(word));
+                return self.take_word(due).map(Some);
             }
             self.at += 1;
             self.rest = more;
@@ -158,12 +140,11 @@ impl<'a> Reader<'a> {
     }
 
     // The next word, read as what is due, or nothing where only blanks are left.
-    pub fn next(&mut self, due: Due) -> Result<Option<Word<'a>>, WordFault>
-        ensures value { seen result self.new ≡ next_word due (rest_of self.old) }
-        ensures part { WordIsPart result (rest_of self.old) self.new }
-        ensures left { BlanksGone result (rest_of self.old) self.new }
-        ensures after { rest_of self.new ≡ left_after due (rest_of self.old) }
-        ensures end { text_end (rest_of self.new) ≡ text_end (rest_of self.old) }
+    pub fn next(&mut self, due: Due) -> Result<Option<Word<'a>>, Fault<WordCause>>
+        ensures value { seen result self.new ≡ next_word due self.old }
+        ensures part { WordIsPart result self.old self.new }
+        ensures left { BlanksGone result self.old self.new }
+        ensures goes_on { GoesOn due self.old self.new }
     {
         self.advance(due)
     }

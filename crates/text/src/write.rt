@@ -1,7 +1,10 @@
-// Writing into bytes that the caller lends. The functions here write what fits and count what is written,
+// Writing into bytes that the caller lends. Everything here writes what fits and counts what is written,
 // so that a first run over no bytes at all tells how many a text needs.
-ghost use Rattle.std.specs.Prelude.{◌≡◌, ◌+◌, ◌^◌, ◌<◌, ◌≤◌, [], ◌∷◌, length, decimal};
-ghost use Rattle.text.specs.Writing.{Wrote, too_few_bytes};
+ghost use Rattle.std.specs.Prelude.{◌≡◌, ℕ, ◌+◌, ◌^◌, ◌<◌, ◌≤◌, List, length};
+ghost use Rattle.text.specs.Writing.{Puts, write_answer, write_after, too_few_bytes};
+ghost use Rattle.text.specs.Report.{shown_word};
+
+use itoa::{Buffer, Integer};
 
 // Fewer bytes are lent than the text needs; none of them was touched.
 #[derive(Clone, Copy, PartialEq, Eq, Debug)]
@@ -16,39 +19,73 @@ impl TooFewBytes {
     }
 }
 
-// Writes a byte.
-pub(crate) fn put_byte(out: &mut [u8], at: usize, b: u8) -> usize
-    requires { at + 1 < 2 ^ 64 }
-    ensures { Wrote out.old at (b ∷ []) result out.new }
-{
-    if at < out.len() {
-        out[at] = b;
-    }
-    at + 1
+// Lent bytes, and where the next one goes. What would lie past their end is left out and counted.
+#[derive(Drop)]
+pub(crate) struct Lent<'a> {
+    out: &'a mut [u8],
+    at: usize,
 }
 
-// Writes some bytes.
-pub(crate) fn put(out: &mut [u8], at: usize, bytes: &[u8]) -> usize
-    requires { at + length bytes.now < 2 ^ 64 }
-    ensures { Wrote out.old at bytes.now result out.new }
-{
-    let mut rest = bytes;
-    let mut end = at;
-    while let [b, more @ ..] = rest {
-        end = put_byte(out, end, *b);
-        rest = more;
+impl Lent<'_> {
+    // Writes some bytes.
+    pub(crate) fn put(&mut self, bytes: &[u8])
+        requires { self.old.at + length bytes.now < 2 ^ 64 }
+        ensures { Puts self.old bytes.now self.new }
+    {
+        let end = self.at + bytes.len();
+        if end <= self.out.len() {
+            self.out[self.at..end].copy_from_slice(bytes);
+        }
+        self.at = end;
     }
-    end
+
+    // Writes a blank and a word.
+    pub(crate) fn word(&mut self, word: &[u8])
+        requires { self.old.at + length (shown_word word.now) < 2 ^ 64 }
+        ensures { Puts self.old (shown_word word.now) self.new }
+    {
+        self.put(b" ");
+        self.put(word);
+    }
+
+    // Writes a blank and a number.
+    pub(crate) fn number<N: Integer>(&mut self, n: N)
+        requires { self.old.at ≤ 2 ^ 32 }
+        ensures wrote { Puts self.old (shown_word (N.text n)) self.new }
+        ensures bound { self.new.at ≤ self.old.at + 1 + N.MAX_STR_LEN }
+    {
+        self.word(Buffer::new().format(n).as_bytes());
+    }
 }
 
-// Writes the decimal digits of a number.
-pub(crate) fn put_number(out: &mut [u8], at: usize, n: usize) -> usize
-    requires { at + length (decimal n) < 2 ^ 64 }
-    ensures { Wrote out.old at (decimal n) result out.new }
+// What can be told in lent bytes: its text, and how long that is at most.
+pub(crate) trait Told {
+    ghost told: { Self → List ℕ };
+
+    ghost most: { ℕ };
+
+    fn tell(&self, lent: &mut Lent<'_>)
+        requires { lent.old.at + most ≤ 20000 }
+        ensures wrote { Puts lent.old (told self.now) lent.new }
+        ensures bound { lent.new.at ≤ lent.old.at + most };
+}
+
+// Writes what is told, whole, where enough bytes are lent for it. Tells how many bytes that is.
+pub(crate) fn lend<T: Told>(told: &T, out: &mut [u8]) -> Result<usize, TooFewBytes>
+    requires { T.most ≤ 20000 }
+    ensures answer { result ≡ write_answer (T.told told.now) out.old }
+    ensures after { out.new ≡ write_after (T.told told.now) out.old }
+    ensures short { length (T.told told.now) ≤ T.most }
 {
-    if n < 10 {
-        return put_byte(out, at, 48 + n as u8);
+    let mut counted = Lent {
+        out: &mut [],
+        at: 0,
+    };
+    told.tell(&mut counted);
+    if counted.at > out.len() {
+        return Err(TooFewBytes);
     }
-    let end = put_number(out, at, n / 10);
-    put_byte(out, end, 48 + (n % 10) as u8)
+    let mut lent = Lent { out, at: 0 };
+    told.tell(&mut lent);
+    Ok(lent.at)
 }

@@ -4,9 +4,10 @@ use std::process::Abort;
 use text::fault::{Cause, Fault, Place, ProfileCause, SectionCause, WordCause};
 use text::profiles::read_profile;
 
-fn sample() -> &'static [u8] {
-    b"states 1 idle\nsymbols 2 base event\nrules 2\nmay idle base trigger idle event base\nmay idle event end idle\nstart 1 idle base\n"
-}
+const SAMPLE: &[u8] =
+    b"states 1 idle\nsymbols 2 base event\nrules 2\nmay idle base trigger idle event base\nmay idle event end idle\nstart 1 idle base\n";
+
+const OTHER: &[u8] = b"states 2 a b\nsymbols 3 x y z\nrules 1\nmust b z gap a y\nstart 1 b z\n";
 
 // Whether a table holds the sample's two rules and its start.
 fn holds_sample(rt: &impl Abort, table: &Table) {
@@ -53,10 +54,6 @@ fn holds_other(rt: &impl Abort, table: &Table) {
     assert_eq!(rt; table.start(), (1, 2));
 }
 
-fn other() -> &'static [u8] {
-    b"states 2 a b\nsymbols 3 x y z\nrules 1\nmust b z gap a y\nstart 1 b z\n"
-}
-
 fn fault(cause: Cause, offset: usize) -> Result<(), Fault> {
     Err(Fault {
         cause,
@@ -68,7 +65,7 @@ fn fault(cause: Cause, offset: usize) -> Result<(), Fault> {
 #[test]
 fn the_sample(rt: HostRuntime) {
     let mut table = Table::new();
-    assert_eq!(rt; read_profile(sample(), &mut table), Ok(()));
+    assert_eq!(rt; read_profile(SAMPLE, &mut table), Ok(()));
     holds_sample(&rt, &table);
 }
 
@@ -76,74 +73,77 @@ fn the_sample(rt: HostRuntime) {
 #[test]
 fn one_after_the_other(rt: HostRuntime) {
     let mut table = Table::new();
-    assert_eq!(rt; read_profile(sample(), &mut table), Ok(()));
-    assert_eq!(rt; read_profile(other(), &mut table), Ok(()));
+    assert_eq!(rt; read_profile(SAMPLE, &mut table), Ok(()));
+    assert_eq!(rt; read_profile(OTHER, &mut table), Ok(()));
     holds_other(&rt, &table);
-    assert_eq!(rt; read_profile(sample(), &mut table), Ok(()));
+    assert_eq!(rt; read_profile(SAMPLE, &mut table), Ok(()));
     holds_sample(&rt, &table);
+}
+
+// Whether each text of a table is refused so, and changes nothing of what the other one left.
+fn refused_after_other(rt: &impl Abort, texts: &[(&[u8], Cause, usize)]) {
+    let mut table = Table::new();
+    assert_eq!(rt; read_profile(OTHER, &mut table), Ok(()));
+    for (text, cause, offset) in texts {
+        assert_eq!(rt; read_profile(text, &mut table), fault(*cause, *offset));
+        holds_other(rt, &table);
+    }
 }
 
 // A text that is refused, however late, changes nothing of what the table held.
 #[test]
 fn refused(rt: HostRuntime) {
-    let mut table = Table::new();
-    assert_eq!(rt; read_profile(other(), &mut table), Ok(()));
-    assert_eq!(rt;
-        read_profile(b"states 1 a\x09", &mut table),
-        fault(Cause::InWords(WordCause::ByteNotAllowed), 10)
+    refused_after_other(
+        &rt,
+        &[
+            (
+                b"states 1 a\x09",
+                Cause::InWords(WordCause::ByteNotAllowed),
+                10,
+            ),
+            (
+                b"states 1 abcdefghijklmnopq",
+                Cause::InWords(WordCause::WordTooLong),
+                9,
+            ),
+            (b"", Cause::InSections(SectionCause::WordNotDue), 0),
+            (
+                b"states 9 a",
+                Cause::InSections(SectionCause::NumberNotDue),
+                7,
+            ),
+        ],
     );
-    holds_other(&rt, &table);
-    assert_eq!(rt;
-        read_profile(b"states 1 abcdefghijklmnopq", &mut table),
-        fault(Cause::InWords(WordCause::WordTooLong), 9)
-    );
-    holds_other(&rt, &table);
-    assert_eq!(rt;
-        read_profile(b"", &mut table),
-        fault(Cause::InSections(SectionCause::WordNotDue), 0)
-    );
-    holds_other(&rt, &table);
-    assert_eq!(rt;
-        read_profile(b"states 9 a", &mut table),
-        fault(Cause::InSections(SectionCause::NumberNotDue), 7)
-    );
-    holds_other(&rt, &table);
 }
 
 // The same of faults that come after rules were read.
 #[test]
 fn refused_late(rt: HostRuntime) {
-    let mut table = Table::new();
-    assert_eq!(rt; read_profile(other(), &mut table), Ok(()));
-    assert_eq!(rt;
-        read_profile(
-            b"states 1 a symbols 1 x rules 2 may a x end a may a x end a",
-            &mut table,
-        ),
-        fault(Cause::InProfile(ProfileCause::RuleTwice), 45)
+    refused_after_other(
+        &rt,
+        &[
+            (
+                b"states 1 a symbols 1 x rules 2 may a x end a may a x end a",
+                Cause::InProfile(ProfileCause::RuleTwice),
+                45,
+            ),
+            (
+                b"states 1 a symbols 1 x rules 1 may a x end a start 1 a y",
+                Cause::InProfile(ProfileCause::NameUnknown),
+                55,
+            ),
+            (
+                b"states 1 a symbols 1 x rules 1 may a x end a start 1 a x end",
+                Cause::InSections(SectionCause::WordNotDue),
+                57,
+            ),
+            (
+                b"states 2 a a",
+                Cause::InProfile(ProfileCause::NameTwice),
+                11,
+            ),
+        ],
     );
-    holds_other(&rt, &table);
-    assert_eq!(rt;
-        read_profile(
-            b"states 1 a symbols 1 x rules 1 may a x end a start 1 a y",
-            &mut table,
-        ),
-        fault(Cause::InProfile(ProfileCause::NameUnknown), 55)
-    );
-    holds_other(&rt, &table);
-    assert_eq!(rt;
-        read_profile(
-            b"states 1 a symbols 1 x rules 1 may a x end a start 1 a x end",
-            &mut table,
-        ),
-        fault(Cause::InSections(SectionCause::WordNotDue), 57)
-    );
-    holds_other(&rt, &table);
-    assert_eq!(rt;
-        read_profile(b"states 2 a a", &mut table),
-        fault(Cause::InProfile(ProfileCause::NameTwice), 11)
-    );
-    holds_other(&rt, &table);
 }
 
 // A refused text leaves a new table without rules, and its start at 0, 0.

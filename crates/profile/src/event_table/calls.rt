@@ -3,7 +3,6 @@ ghost use Rattle.std.specs.Prelude.{◌≡◌, true, false, slice_index};
 ghost use Rattle.profile.specs.Kinds.{event_kind, same_kind, keeps_kinds};
 ghost use Rattle.profile.specs.Renaming.{Renames, Breaks, renaming_told, renaming_answer, RenamingJudged, renaming_refusal};
 
-use crate::entries::entry_or;
 use crate::{EventTable, kind_of};
 
 // A table of events was refused: it has an event over 11, or one of another kind than the event that it replaces.
@@ -11,7 +10,7 @@ use crate::{EventTable, kind_of};
 pub struct NotRenaming;
 
 impl NotRenaming {
-    // The number of this refusal.
+    // The number of this refusal, as the page on refusals counts them all.
     pub fn number(self) -> u8
         ensures { result ≡ renaming_refusal self }
     {
@@ -23,13 +22,7 @@ impl NotRenaming {
 fn of_one_kind(a: u8, b: u8) -> bool
     ensures { result ≡ same_kind (event_kind a) (event_kind b) }
 {
-    match kind_of(a) {
-        Some(k) => match kind_of(b) {
-            Some(l) => k.symbols() == l.symbols(),
-            None => false,
-        },
-        None => false,
-    }
+    kind_of(a).is_some() && kind_of(a) == kind_of(b)
 }
 
 // Whether each of the 12 events becomes one of its own kind.
@@ -38,12 +31,7 @@ fn renames(events: &[u8; 12]) -> bool
     ensures kept { result ≡ true → Renames events.now }
     ensures broken { result ≡ false → Breaks events.now }
 {
-    for e in 0..12u8 {
-        if !of_one_kind(events[e as usize], e) {
-            return false;
-        }
-    }
-    true
+    (0..12).zip(events).all(|(old, new)| of_one_kind(*new, old))
 }
 
 impl EventTable {
@@ -63,6 +51,6 @@ impl EventTable {
     pub fn renamed_event(&self, event: u8) -> u8
         ensures { result ≡ slice_index self.now.events event }
     {
-        entry_or(&self.events, event as usize, 0)
+        self.events.get(event as usize).copied().unwrap_or(0)
     }
 }

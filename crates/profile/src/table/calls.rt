@@ -77,15 +77,6 @@ impl Table {
     {
         self.rules.as_slice()
     }
-
-    // What it answers as a profile, by its rules: the number of slots, slot i and the start.
-    pub fn answers(&self, i: usize) -> (usize, Option<Rule>, (u8, u8))
-        ensures slots { result.0 ≡ length (map Some (table_rules self.now)) }
-        ensures slot { result.1 ≡ slice_index_or (map Some (table_rules self.now)) i None }
-        ensures start { result.2 ≡ table_start self.now }
-    {
-        (self.slots(), self.slot(i), self.start())
-    }
 }
 
 impl Profile for Table {

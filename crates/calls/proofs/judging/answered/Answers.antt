@@ -1,4 +1,4 @@
-use Rattle.std.proofs.Common.{◌-◌, ◌≤◌, List, ◌++◌, take, replicate, vec_items, string_bytes, ap, ◌∙◌, arith}
+use Rattle.std.proofs.Common.{◌≤◌, List, ◌++◌, take, replicate, vec_items, string_bytes, ap, ◌∙◌, arith}
 use Rattle.std.proofs.lemmas.List.{with_items_is}
 use Rattle.text.specs.ProfileText.{reading_of}
 use Rattle.game.specs.declared.Row.{Row}
@@ -20,5 +20,5 @@ returns c =
     (told_is _ (string_bytes c.put_turns.new.out) (string_bytes c.new-out.result) c.run-book.new.turns c.run-book.new.rows c.held.result c.run-book.result
     c.new-out.ensures.bytes
     (c.in_ok-put_turns.ensures ∙ ap (λ (l : List Turn). string_bytes c.new-out.result ++ turns_text l) (c.as_slice.ensures.value ∙ with_items_is c.args.script.turns c.run-book.new.turns (omega (arith, c.run-book.auto.turns, c.as_mut_slice-2.ensures.len))))
-    (c.in_ok-put_rows.ensures ∙ ap (λ (l : List Row). string_bytes c.put_turns.new.out ++ rows_text (take (c.held.result - 0) l)) (c.as_slice-2.ensures.value ∙ with_items_is c.in_ok-rows.rows c.run-book.new.rows (omega (arith, c.run-book.auto.rows, c.as_mut_slice.ensures.len))))
+    (c.in_ok-put_rows.ensures ∙ ap (λ (l : List Row). string_bytes c.put_turns.new.out ++ rows_text (take c.held.result l)) (c.as_slice-2.ensures.value ∙ with_items_is c.in_ok-rows.rows c.run-book.new.rows (omega (arith, c.run-book.auto.rows, c.as_mut_slice.ensures.len))))
     c.held.ensures few)

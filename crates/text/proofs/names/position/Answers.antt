@@ -1,15 +1,12 @@
-use Rattle.std.proofs.Common.{sym, ◌∙◌}
-use Rattle.text.proofs.NameSteps.{index_here, index_more, index_none}
+use Rattle.std.proofs.Common.{◌∙◌, rules}
+use Rattle.std.specs.Str.{bytes_eq}
+use Rattle.std.proofs.lemmas.Iterator.{YieldsList-from_slice}
+use Rattle.std.proofs.lemmas.Iterator.Search.{position_from_yields_List}
+use borrow.Author.Tests.{tests}
+use Rattle.text.proofs.NameSteps.{index_is}
 use Rattle.text.proofs.names.position.Goals as goal
 
-pub returns-then-alike : goal.returns-then-alike
-returns-then-alike c = record {
-  value = index_here _ _ _ _ c.loop-i-test.true (sym c.if-alike.ensures) ∙ c.loop-i.invariant;
-  bound = c.loop-i-test.true;
-}
-
-pub loop-i-preserved : goal.loop-i-preserved
-loop-i-preserved c = index_more _ _ _ _ c.loop-i-test.true (sym c.if-alike.ensures) ∙ c.loop-i.invariant
-
-pub returns : goal.returns
-returns c = record { value = index_none _ _ _ c.loop-i-test.false ∙ c.loop-i.invariant; bound = tt }
+pub returns-clause-value : goal.returns-clause-value
+returns-clause-value c =
+    position_from_yields_List (λ r. bytes_eq r.now c.args.name.now) _ _ _ c.position.ensures.ran (YieldsList-from_slice c.args.names.now (cc)) (λ x b q k. search (rules, tests)) ∙
+    index_is c.args.name.now c.args.names.now

@@ -1,9 +1,6 @@
-use Rattle.std.proofs.Common.{length}
-use Rattle.text.proofs.Steps.{DigitsSoFar}
+use Rattle.std.proofs.Common.{◌≡◌, ◌^◌, ◌<◌, drop}
+use Rattle.text.specs.Sections.{digits_after}
 use Rattle.text.proofs.sections.plain_number.Given as goal
 
-abbrev pub invariant-loop-rest : goal.invariant-loop-rest
-invariant-loop-rest l = DigitsSoFar l.bytes l.rest l.n
-
-abbrev pub decreases-loop-rest : goal.decreases-loop-rest
-decreases-loop-rest l = length l.rest
+abbrev pub invariant-loop-b : goal.invariant-loop-b
+invariant-loop-b l = (digits_after (drop l.b-index l.bytes) l.n ≡ digits_after l.bytes 0) × (l.n < 10 ^ l.b-index)

@@ -1,5 +1,5 @@
 use Rattle.std.proofs.Common.{refl}
-use Rattle.profile.proofs.Meanings.{open_means}
+use Rattle.profile.specs.Meanings.{open_means}
 use Rattle.profile.proofs.open_profile.OpenProfile.events.Goals as goal
 
 pub returns : goal.returns

@@ -1,9 +1,0 @@
-use Rattle.std.proofs.Common.{rules}
-use Rattle.text.proofs.Steps.{run_more, run_none}
-use Rattle.text.proofs.words.run_end.Goals as goal
-
-pub loop-rest-preserved : goal.loop-rest-preserved
-loop-rest-preserved c = search (rules, run_more)
-
-pub returns : goal.returns
-returns c = search (rules, run_none)
