@@ -4,6 +4,7 @@ ghost use Rattle.book.specs.Offers.{attempt};
 ghost use Rattle.book.specs.Attacks.{seen, taken_up, by_rule};
 
 use crate::Refusal;
+use crate::making::Sides;
 use crate::reply::Side;
 use game::Head;
 use profile::{Profile, Rule};
@@ -33,21 +34,19 @@ fn attack_by(side: Side, slot: Option<Rule>, state: usize, symbol: usize) -> Res
     Ok(Attack { side, rule, head })
 }
 
-// The attack from a slot of a side, at a state and a symbol of the other: side 0 is the station, side 1 the manual.
-pub(crate) fn attack_of<S: Profile, M: Profile>(
-    station: &S,
-    manual: &M,
-    side: usize,
-    slot: usize,
-    state: usize,
-    symbol: usize,
-) -> Result<Attack, Refusal>
-    ensures { seen result ≡ taken_up state symbol (attempt (S.Profile.rules station.now) (M.Profile.rules manual.now) side slot state symbol) }
-{
-    let side = Side::try_from(side)?;
-    let slot = match side {
-        Side::Station => station.slot(slot),
-        Side::Manual => manual.slot(slot),
-    };
-    attack_by(side, slot, state, symbol)
+impl<S: Profile, M: Profile> Sides<'_, S, M> {
+    // The attack from a slot of a side, at a state and a symbol of the other: side 0 is the station, side 1 the manual.
+    // In any numbers: a call may give any.
+    pub(crate) fn attack(
+        &self,
+        side: usize,
+        slot: usize,
+        state: usize,
+        symbol: usize,
+    ) -> Result<Attack, Refusal>
+        ensures { seen result ≡ taken_up state symbol (attempt (S.Profile.rules self.now.station.now) (M.Profile.rules self.now.manual.now) side slot state symbol) }
+    {
+        let side = Side::try_from(side)?;
+        attack_by(side, self.slot(side, slot), state, symbol)
+    }
 }

@@ -11,7 +11,7 @@ ghost use Rattle.book.specs.Widths.{fitted};
 ghost use Rattle.book.specs.Written.{headed, fitted_row, fitted_both, new_and_free};
 
 use crate::Refusal;
-use crate::attack::{Attack, attack_of};
+use crate::attack::Attack;
 use crate::held::{has_room, held_of, is_among, is_called_for};
 use crate::joining::join_rows;
 use crate::reply::Side;
@@ -109,7 +109,7 @@ impl<'a, S: Profile, M: Profile> Sides<'a, S, M> {
                 state,
                 symbol,
             } => {
-                let attack = attack_of(self.station, self.manual, side, slot, state, symbol)?;
+                let attack = self.attack(side, slot, state, symbol)?;
                 if is_called_for(self.start, held.rows, attack.head) {
                     held.if_new(self.attack_row(attack, line)?)
                 } else {

@@ -75,7 +75,7 @@ impl<'a, S: Profile, M: Profile> Sides<'a, S, M> {
     }
 
     // What a slot of a side holds.
-    fn slot(&self, side: Side, slot: usize) -> Option<Rule>
+    pub(crate) fn slot(&self, side: Side, slot: usize) -> Option<Rule>
         ensures { result ≡ slice_index_or (slots_of (S.Profile.rules self.now.station.now) (M.Profile.rules self.now.manual.now) side) slot None }
     {
         match side {

@@ -15,6 +15,7 @@ pub(crate) type Members = Held<Member, 12>;
 pub(crate) fn put(members: &mut Members, m: Member) -> Result<(), Refusal>
     ensures { MatchResult result (λ _. fitted (insert_into member_le m members.old) ≡ Ok members.new) (λ why. fitted (insert_into member_le m members.old) ≡ Err why) }
 {
+    // Two arms with one answer: in a joined arm the proof would not know which of them it was.
     match members.insert(m) {
         Ok(_) => Ok(()),
         Err(Unplaced::Double(_)) => Ok(()),
