@@ -1,5 +1,6 @@
 -- The search over all rows: every row that is done with stays so, and in the end all are.
 use Rattle.std.proofs.Common.{◌≡◌, ℕ, ◌+◌, ◌<◌, ◌≤◌, List, ◌++◌, length, get_or, take, Some, Option, Result, sym, refl, ap, ◌∙◌, subst, inl, inr, arith}
+use Rattle.std.proofs.lemmas.Option.{same_Some}
 use Rattle.std.proofs.lemmas.List.{length-append}
 use Rattle.std.proofs.lemmas.Bool.{cases_lt}
 use Rattle.profile.specs.declared.Kind.{Kind}
@@ -8,7 +9,6 @@ use Rattle.game.specs.declared.Head.{Head}
 use Rattle.game.specs.declared.Line.TheVariants.{Join}
 use Rattle.game.specs.declared.Row.{Row}
 use Rattle.game.specs.Members.{AttackRow, row_of}
-use Rattle.game.proofs.Gathering.{some_same}
 use Rattle.book.specs.declared.search.Unfit.{Unfit}
 use Rattle.book.specs.Offers.{usable, said, row_at}
 use Rattle.book.specs.Trying.{Known, Tried, TopsTried, WentOn, Stepped, line_tried, head_tried, tops_tried, pair_tried, pairs_tried, all_tried}
@@ -79,7 +79,7 @@ module _ (kinds : ℕ → Option Kind) (station manual : List (Option Rule)) (st
       (λ some more e f x y. (
         subst (λ (z : List AttackRow). Known kinds station manual start z k) (sym f) (known_more kinds station manual start (said (take p mid)) more k (omega arith) x),
         (λ r g. subst (λ (z : AttackRow). TopsTried kinds station manual start (said (take q next)) z)
-            (some_same (row_of row) r (sym here ∙ sym (row_at_front (said (take p mid)) more k (omega arith)) ∙ ap (λ (z : List AttackRow). row_at z k) (sym f) ∙ g))
+            (same_Some (row_of row) r (sym here ∙ sym (row_at_front (said (take p mid)) more k (omega arith)) ∙ ap (λ (z : List AttackRow). row_at z k) (sym f) ∙ g))
             (y x (row_at_is_in (said (take p mid)) k (row_of row) here))),
       ))
 

@@ -12,7 +12,6 @@ use Rattle.game.specs.declared.Row.{Row}
 use Rattle.game.specs.Members.{AttackRow, row_of, top_of}
 use Rattle.game.specs.Computed.{called_for}
 use Rattle.game.proofs.Sets.{front_or_last}
-use Rattle.game.proofs.Gathering.{some_is_not_none}
 use Rattle.game.proofs.Testing.{called_for_means, called_for_shown}
 use Rattle.book.specs.declared.reply.Side.{Side}
 use Rattle.book.specs.declared.reply.Side.TheVariants.{Station, Manual}
@@ -53,9 +52,9 @@ module _ (kinds : ℕ → Option Kind) (station manual : List (Option Rule)) (st
   -- both sides were tried: no other side, and no slot past the last, has an attack
   no_attack : (side : Side) (slot state symbol : ℕ) (a : Attempt) → length (slots_of station manual side) ≤ slot → attempt station manual (side_number side) slot state symbol ≡ Some a → ⊥
   no_attack Station slot state symbol a h e =
-      some_is_not_none a (sym e ∙ ap (λ (o : Option Rule). by_station_rule o state symbol) (get_or_past station slot None h))
+      none-some a (sym (sym e ∙ ap (λ (o : Option Rule). by_station_rule o state symbol) (get_or_past station slot None h)))
   no_attack Manual slot state symbol a h e =
-      some_is_not_none a (sym e ∙ ap (λ (o : Option Rule). by_manual_rule o state symbol) (get_or_past manual slot None h))
+      none-some a (sym (sym e ∙ ap (λ (o : Option Rule). by_manual_rule o state symbol) (get_or_past manual slot None h)))
 
   pub both_sides : (rows : List AttackRow) (h : Head) → SideTried kinds station manual start rows Station (length station) h → SideTried kinds station manual start rows Manual (length manual) h →
       HeadTried kinds station manual start rows h
@@ -69,7 +68,7 @@ module _ (kinds : ℕ → Option Kind) (station manual : List (Option Rule)) (st
         | inl l ↦ m slot l state symbol a e f
         | inr g ↦ absurd (no_attack Manual slot state symbol a g e)
       ]
-  both_sides rows h s m (suc (suc n)) slot state symbol a e f = absurd (some_is_not_none a (sym e))
+  both_sides rows h s m (suc (suc n)) slot state symbol a e f = absurd (none-some a e)
 
   -- one slot more
   pub side_next : (rows more : List AttackRow) (side : Side) (i : ℕ) (h : Head) → SideTried kinds station manual start rows side i h → SlotTried kinds station manual start (rows ++ more) side i h →

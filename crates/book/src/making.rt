@@ -14,17 +14,10 @@ use crate::Refusal;
 use crate::attack::{Attack, attack_of};
 use crate::held::{has_room, held_of, is_among, is_called_for};
 use crate::joining::join_rows;
-use crate::reply::{Side, replies};
+use crate::reply::Side;
 use crate::width::{Members, row_with};
 use game::{Head, Line, Row};
 use profile::Profile;
-
-// A row of these members.
-fn with_head(head: Head, line: Line, made: Members) -> Row
-    ensures { Ok result ≡ headed head line (Ok made) }
-{
-    row_with(head, &made, line)
-}
 
 // The rows that are held, and whether a usable row is free.
 #[derive(Clone, Copy)]
@@ -55,7 +48,7 @@ impl<'a> HeldRows<'a> {
             first: i,
             second: j,
         };
-        Ok(with_head(first.head, line, join_rows(first, second)?))
+        Ok(row_with(first.head, &join_rows(first, second)?, line))
     }
 
     // A row that was made, unless it is held already or there is no room.
@@ -93,8 +86,8 @@ impl<'a, S: Profile, M: Profile> Sides<'a, S, M> {
         ensures { result ≡ fitted (entered event_kind (S.Profile.rules self.now.station.now) (M.Profile.rules self.now.manual.now) (player attack.side) attack.rule attack.head).members }
     {
         match attack.side {
-            Side::Station => replies(self.manual, Side::Station, attack.rule, attack.head),
-            Side::Manual => replies(self.station, Side::Manual, attack.rule, attack.head),
+            Side::Station => attack.replies(self.manual),
+            Side::Manual => attack.replies(self.station),
         }
     }
 
@@ -102,7 +95,7 @@ impl<'a, S: Profile, M: Profile> Sides<'a, S, M> {
     fn attack_row(&self, attack: Attack, line: Line) -> Result<Row, Refusal>
         ensures { result ≡ fitted_row (entered event_kind (S.Profile.rules self.now.station.now) (M.Profile.rules self.now.manual.now) (player attack.side) attack.rule attack.head) line }
     {
-        Ok(with_head(attack.head, line, self.reply_members(attack)?))
+        Ok(row_with(attack.head, &self.reply_members(attack)?, line))
     }
 
     // A line, offered to the held rows.

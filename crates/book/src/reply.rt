@@ -7,8 +7,9 @@ ghost use Rattle.book.specs.Widths.{fitted};
 ghost use Rattle.book.specs.Sides.{player, numbered_side, paired};
 
 use crate::Refusal;
+use crate::attack::Attack;
 use crate::width::{Members, put};
-use game::{Head, Member, Pair, Pairs};
+use game::{Member, Pair, Pairs};
 use ordered::Held;
 use profile::{Kind, Mode, Profile, Rule, kind_of};
 
@@ -61,15 +62,18 @@ impl Side {
     {
         self == Side::Station || rule.mode == Mode::Must
     }
+}
 
-    // The member that an attack and a reply lead to, the station first whoever attacks.
-    fn led_to(self, rule: Rule, reply: Rule) -> Member
-        ensures { result ≡ leads_to event_kind (player self) rule reply }
+impl Attack {
+    // The member that this attack and a reply lead to, the station first whoever attacks.
+    fn led_to(self, reply: Rule) -> Member
+        ensures { result ≡ leads_to event_kind (player self.side) self.rule reply }
     {
-        let upper = self.pair(rule.upper, reply.upper);
-        let lower = self.pair(rule.lower, reply.lower);
+        let Attack { side, rule, .. } = self;
+        let upper = side.pair(rule.upper, reply.upper);
+        let lower = side.pair(rule.lower, reply.lower);
         Member {
-            states: self.pair(rule.next, reply.next),
+            states: side.pair(rule.next, reply.next),
             symbols: match kind_of(rule.event) {
                 Some(Kind::Open) => Pairs::Two(upper, lower),
                 Some(Kind::Step) => Pairs::One(upper),
@@ -78,34 +82,29 @@ impl Side {
         }
     }
 
-    // Whether a rule replies to an attack at a head.
-    fn is_reply(self, rule: Rule, head: Head, reply: Rule) -> bool
-        ensures { result ≡ answers (player self) rule head reply }
+    // Whether a rule replies to this attack.
+    fn is_reply(self, reply: Rule) -> bool
+        ensures { result ≡ answers (player self.side) self.rule self.head reply }
     {
-        self.plays(reply)
-            && reply.event == rule.event
-            && reply.state == self.replying(head.states)
-            && reply.top == self.replying(head.symbols)
+        self.side.plays(reply)
+            && reply.event == self.rule.event
+            && reply.state == self.side.replying(self.head.states)
+            && reply.top == self.side.replying(self.head.symbols)
     }
-}
 
-// The members that all replies to an attack lead to. By number: a profile is asked slot by slot.
-pub(crate) fn replies<P: Profile>(
-    replier: &P,
-    side: Side,
-    rule: Rule,
-    head: Head,
-) -> Result<Members, Refusal>
-    ensures { result ≡ fitted (gathered (answers (player side) rule head) (leads_to event_kind (player side) rule) (P.Profile.rules replier.now) []) }
-{
-    let mut members = Held::new(Member::default());
-    let all = replier.slots();
-    for i in 0..all {
-        if let Some(reply) = replier.slot(i)
-            && side.is_reply(rule, head, reply)
-        {
-            put(&mut members, side.led_to(rule, reply))?;
+    // The members that all replies to this attack lead to. By number: a profile is asked slot by slot.
+    pub(crate) fn replies<P: Profile>(self, replier: &P) -> Result<Members, Refusal>
+        ensures { result ≡ fitted (gathered (answers (player self.side) self.rule self.head) (leads_to event_kind (player self.side) self.rule) (P.Profile.rules replier.now) []) }
+    {
+        let mut members = Held::new(Member::default());
+        let all = replier.slots();
+        for i in 0..all {
+            if let Some(reply) = replier.slot(i)
+                && self.is_reply(reply)
+            {
+                put(&mut members, self.led_to(reply))?;
+            }
         }
+        Ok(members)
     }
-    Ok(members)
 }

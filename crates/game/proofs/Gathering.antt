@@ -12,12 +12,6 @@ use Rattle.game.specs.Rows.{gathered, put_in}
 use Rattle.game.specs.Order.{member_antisymmetric, member_transitive, member_total}
 use Rattle.game.proofs.Sets.{old_or_new, still_in, now_in}
 
-pub some_same : {A : Type 0} (x y : A) → Some x ≡ Some y → x ≡ y
-some_same x y e = same_Some x y e
-
-pub some_is_not_none : {A : Type 0} (x : A) → Some x ≡ None → ⊥
-some_is_not_none x e = none-some x (sym e)
-
 -- one member more
 keeps_ascending : (m : Member) (ms : List Member) → Ascending member_le ms → Ascending member_le (insert_into member_le m ms)
 keeps_ascending = ascending_inserted member_le member_transitive member_total

@@ -1,6 +1,7 @@
-use Rattle.std.proofs.Common.{◌∙◌}
+use Rattle.std.proofs.Common.{Ok, ap, ◌∙◌}
 use Rattle.std.proofs.lemmas.Result.{err_from_is_err_and}
 use Rattle.game.specs.declared.Line.TheVariants.{Join}
+use Rattle.game.specs.declared.Row.{Row}
 use Rattle.book.proofs.Offering.{got_row, got_none, missing_told, both_there}
 use Rattle.book.proofs.making.HeldRows.join_row.Goals as goal
 
@@ -28,4 +29,4 @@ pub returns : goal.returns
 returns c =
     let first = got_row c.args.self.rows.now c.args.i c.get.result c.in_ok-first.first c.get.ensures.lookup c.in_ok-first.ensures.ok_part in
     let second = got_row c.args.self.rows.now c.args.j c.get-2.result c.in_ok-second.second c.get-2.ensures.lookup c.in_ok-second.ensures.ok_part in
-    c.with_head.ensures ∙ both_there c.in_ok-first.first.now c.in_ok-second.second.now _ _ (Join c.args.i c.args.j) _ first second c.in_ok-join_rows.ensures
+    ap (λ (row : Row). Ok row) c.row_with.ensures ∙ both_there c.in_ok-first.first.now c.in_ok-second.second.now _ _ (Join c.args.i c.args.j) _ first second c.in_ok-join_rows.ensures
