@@ -6,18 +6,16 @@ use Rattle.std.proofs.lemmas.Bool.{cases_lt}
 use Rattle.profile.specs.declared.Kind.{Kind}
 use Rattle.profile.specs.declared.Rule.{Rule}
 use Rattle.game.specs.declared.Head.{Head}
-use Rattle.game.specs.declared.Line.{Line}
 use Rattle.game.specs.declared.Line.TheVariants.{Join}
 use Rattle.game.specs.declared.Row.{Row}
 use Rattle.game.specs.Members.{AttackRow, row_of}
-use Rattle.game.proofs.Testing.{called_for_shown}
 use Rattle.book.specs.declared.search.Unfit.{Unfit}
 use Rattle.book.specs.Offers.{usable, said, row_at}
 use Rattle.book.specs.Trying.{Known, Tried, TopsTried, WentOn, Stepped, line_tried, head_tried, tops_tried, pair_tried, pairs_tried, all_tried}
 use Rattle.book.proofs.Numbers.{row_at_is_in}
-use Rattle.book.proofs.Searching.{row_at_front, tried_more, tops_tried_more, done_none, done_next}
+use Rattle.book.proofs.Searching.{row_at_front, tried_more, tops_tried_more, done_next}
 use Rattle.book.proofs.Entering.{said_many, said_at, known_more}
-use Rattle.book.proofs.Trials.{went_then, stepped_then, went_for, went_still}
+use Rattle.book.proofs.Trials.{went_then, stepped_then}
 
 module _ (kinds : ℕ → Option Kind) (station manual : List (Option Rule)) (start : Head) where
   -- two joins
@@ -35,22 +33,6 @@ module _ (kinds : ℕ → Option Kind) (station manual : List (Option Rule)) (st
             (tried_more kinds station manual start (said (take p mid)) more (Join k j) (omega arith, omega arith) (x refl)),
         y refl,
       )))
-
-  -- the one join of a row with itself
-  pub self_done : (n : ℕ) (was is : List Row) (p : ℕ) (k j : ℕ) → k ≡ j →
-      WentOn kinds station manual start (usable was) n was (line_tried kinds station manual start (said (take n was)) (Join k j)) p is →
-      WentOn kinds station manual start (usable was) n was (pair_tried kinds station manual start (said (take n was)) k j) p is
-  self_done n was is p k j e a =
-      went_for kinds station manual start n was is p (line_tried kinds station manual start (said (take n was)) (Join k j)) (pair_tried kinds station manual start (said (take n was)) k j) a
-      (λ x l r. (x refl, subst (λ (l : Line). Tried kinds station manual start (said (take p is)) l) (λ i. Join (e i) (sym e i)) (x refl)))
-
-  -- the joins of a row with the rows up to it, one after the other
-  pub pairs_begin : (was next : List Row) (n : ℕ) (p : ℕ) (k : ℕ) (done : List AttackRow → Type 0) → WentOn kinds station manual start (usable was) n was done p next →
-      WentOn kinds station manual start (usable next) p next (pairs_tried kinds station manual start (said (take p next)) k 0) p next
-  pairs_begin was next n p k done a =
-      let within = a.went.within in
-      let long = a.went.long in
-      went_still kinds station manual start p next (pairs_tried kinds station manual start (said (take p next)) k 0) (omega arith) (λ j l. absurd (omega arith))
 
   pub pairs_go_on : (n : ℕ) (was mid is : List Row) (p q : ℕ) (k j : ℕ) →
       WentOn kinds station manual start (usable was) n was (pairs_tried kinds station manual start (said (take n was)) k j) p mid →
@@ -81,14 +63,6 @@ module _ (kinds : ℕ → Option Kind) (station manual : List (Option Rule)) (st
 
   abbrev pub done_to : ℕ → List AttackRow → Type 0
   done_to k rows = Known kinds station manual start rows k
-
-  pub rows_begin : (n : ℕ) (was next : List Row) (p : ℕ) → WentOn kinds station manual start (usable was) n was (head_tried kinds station manual start (said (take n was)) start) p next →
-      WentOn kinds station manual start (usable next) p next (done_to 0) p next
-  rows_begin n was next p a =
-      let within = a.went.within in
-      let long = a.went.long in
-      went_still kinds station manual start p next (done_to 0) (omega arith)
-      (a.goal (called_for_shown start (said (take n was)) start (inl refl)), done_none kinds station manual start (said (take p next)))
 
   pub tops_done : (n : ℕ) (was mid next : List Row) (p q : ℕ) (k : ℕ) (row d : Row) → row ≡ get_or mid k d → k < p →
       WentOn kinds station manual start (usable was) n was (done_to k) p mid →

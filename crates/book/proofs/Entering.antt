@@ -1,19 +1,15 @@
 -- The enters at a head, slot by slot and side by side.
-use Rattle.std.proofs.Common.{◌≡◌, ℕ, zero, suc, ◌+◌, ◌<◌, ◌≤◌, true, false, cond, ◌&&◌, ltb, ◌⊎◌, List, [], ◌∷◌, ◌++◌, length, get_or, take, Some, None, Option, Result, sym, refl, ap, ◌∙◌, subst, inl, inr, ⊎_elim, arith, length-take}
-use Rattle.std.proofs.lemmas.Option.{none-some, same_Some}
+use Rattle.std.proofs.Common.{◌≡◌, ℕ, zero, suc, ◌+◌, ◌<◌, ◌≤◌, true, ◌⊎◌, List, [], ◌∷◌, ◌++◌, length, get_or, take, Some, None, Option, Result, sym, refl, ap, ◌∙◌, subst, inl, inr, ⊎_elim, arith, length-take}
+use Rattle.std.proofs.lemmas.Option.{none-some}
 use Rattle.std.proofs.lemmas.List.{get_or_past, get_or-take, take_more, take_all, length-take-le}
-use Rattle.std.proofs.lemmas.Bool.{both_ways, and_from, lt-ltb, eq-eqb, cases_lt}
+use Rattle.std.proofs.lemmas.Bool.{cases_lt}
 use Rattle.ordered.specs.Laws.{In}
 use Rattle.profile.specs.declared.Kind.{Kind}
 use Rattle.profile.specs.declared.Rule.{Rule}
-use Rattle.profile.specs.declared.Mode.{Mode}
-use Rattle.profile.specs.declared.Mode.TheVariants.{May, Must}
 use Rattle.game.specs.declared.Head.{Head}
 use Rattle.game.specs.declared.Member.{Member}
-use Rattle.game.specs.declared.Line.{Line}
 use Rattle.game.specs.declared.Line.TheVariants.{Enter}
 use Rattle.game.specs.declared.Row.{Row}
-use Rattle.game.specs.Game.{by_manual, is_must}
 use Rattle.game.specs.Members.{AttackRow, row_of, top_of}
 use Rattle.game.specs.Computed.{called_for}
 use Rattle.game.proofs.Sets.{front_or_last}
@@ -21,10 +17,10 @@ use Rattle.game.proofs.Testing.{called_for_means, called_for_shown}
 use Rattle.book.specs.declared.reply.Side.{Side}
 use Rattle.book.specs.declared.reply.Side.TheVariants.{Station, Manual}
 use Rattle.book.specs.declared.search.Unfit.{Unfit}
-use Rattle.book.specs.Offers.{usable, said, Attempt, by_station_rule, by_manual_rule, attempt, attempt_called, line_called, row_at, blank_member}
-use Rattle.book.specs.Sides.{side_number, slots_of, rule_at, enter_at, InBytes}
+use Rattle.book.specs.Offers.{usable, said, Attempt, by_station_rule, by_manual_rule, attempt, row_at, blank_member}
+use Rattle.book.specs.Sides.{side_number, slots_of}
 use Rattle.book.specs.Blank.{blank_row}
-use Rattle.book.specs.Trying.{Known, new_tried, Tried, HeadTried, SlotTried, SideTried, MembersTried, WentOn, Stepped, line_tried, slot_tried, side_tried, head_tried, top_tried, members_tried, tops_tried}
+use Rattle.book.specs.Trying.{Known, new_tried, HeadTried, SlotTried, SideTried, MembersTried, WentOn, Stepped, slot_tried, side_tried, head_tried, top_tried, members_tried, tops_tried}
 use Rattle.book.proofs.Numbers.{said_length, row_read, row_has_number}
 use Rattle.book.proofs.Searching.{row_at_inside, in_front, tried_more, head_tried_more, done_more}
 use Rattle.book.proofs.Trials.{went_then, stepped_then, went_for}
@@ -53,73 +49,7 @@ called_for_more start rows more h e =
     called_for_shown start (rows ++ more) h
     (⊎_elim (λ s. inl s) (λ b. inr (b.0, in_front b.0 rows more b.1, b.2, b.3, b.4)) (called_for_means start rows h e))
 
--- the other side's numbers in an enter are those of the head that it is at, and the slot has a rule there
-pub record SameHead (side : Side) (slot : Option Rule) (h : Head) (state symbol : ℕ) (i : ℕ) : Type 0 where
-  pub line : Enter (side_number side) i state symbol ≡ enter_at side i h
-  pub rule : rule_at side slot h ≡ true
-
-station_head : (o : Option Rule) (state symbol i : ℕ) (a : Attempt) (h : Head) → by_station_rule o state symbol ≡ Some a → a.head ≡ h → SameHead Station o h state symbol i
-station_head None state symbol i a h e f = absurd (none-some a e)
-station_head (Some r) state symbol i a h e f =
-    let same : record { states = record { station = r.state; manual = state }; symbols = record { station = r.top; manual = symbol } } ≡ h = ap (λ (x : Attempt). x.head) (same_Some _ a e) ∙ f in
-    record {
-      line = (let p : state ≡ h.states.manual = ap (λ (x : Head). x.states.manual) same in let q : symbol ≡ h.symbols.manual = ap (λ (x : Head). x.symbols.manual) same in λ j. Enter 0 i (p j) (q j));
-      rule = and_from _ _ (eq-eqb r.state h.states.station (ap (λ (x : Head). x.states.station) same)) (eq-eqb r.top h.symbols.station (ap (λ (x : Head). x.symbols.station) same));
-    }
-
-manual_head : (o : Option Rule) (state symbol i : ℕ) (a : Attempt) (h : Head) → by_manual_rule o state symbol ≡ Some a → a.head ≡ h → SameHead Manual o h state symbol i
-manual_head None state symbol i a h e f = absurd (none-some a e)
-manual_head (Some r) state symbol i a h e f = by r.mode e
-  where
-    by : (mode : Mode) → cond (is_must mode) (Some (record { side = by_manual; rule = r; head = record { states = record { station = state; manual = r.state }; symbols = record { station = symbol; manual = r.top } } })) None ≡ Some a → SameHead Manual (Some r) h state symbol i
-    by May g = absurd (none-some a g)
-    by Must g =
-        let same : record { states = record { station = state; manual = r.state }; symbols = record { station = symbol; manual = r.top } } ≡ h = ap (λ (x : Attempt). x.head) (same_Some _ a g) ∙ f in
-        record {
-          line = (let p : state ≡ h.states.station = ap (λ (x : Head). x.states.station) same in let q : symbol ≡ h.symbols.station = ap (λ (x : Head). x.symbols.station) same in λ j. Enter 1 i (p j) (q j));
-          rule = and_from _ _ (eq-eqb r.state h.states.manual (ap (λ (x : Head). x.states.manual) same)) (eq-eqb r.top h.symbols.manual (ap (λ (x : Head). x.symbols.manual) same));
-        }
-
 module _ (kinds : ℕ → Option Kind) (station manual : List (Option Rule)) (start : Head) where
-  same_head : (side : Side) (slot state symbol : ℕ) (a : Attempt) (h : Head) → attempt station manual (side_number side) slot state symbol ≡ Some a → a.head ≡ h →
-      SameHead side (get_or (slots_of station manual side) slot None) h state symbol slot
-  same_head Station slot state symbol a h e f = station_head (get_or station slot None) state symbol slot a h e f
-  same_head Manual slot state symbol a h e f = manual_head (get_or manual slot None) state symbol slot a h e f
-
-  -- an enter at a head that is called for
-  called_at : (before : List AttackRow) (side slot state symbol : ℕ) (a : Attempt) (h : Head) → attempt station manual side slot state symbol ≡ Some a → a.head ≡ h → state < 256 → symbol < 256 → called_for start before h ≡ true →
-      line_called kinds station manual start before (Enter side slot state symbol) ≡ true
-  called_at before side slot state symbol a h e f p q c =
-      ap (λ (o : Option Attempt). attempt_called kinds station manual start before state symbol o) e ∙
-      and_from (ltb state 256) (ltb symbol 256 && called_for start before a.head) (lt-ltb state 256 p)
-      (and_from (ltb symbol 256) (called_for start before a.head) (lt-ltb symbol 256 q) (ap (λ (x : Head). called_for start before x) f ∙ c))
-
-  enter_called : (before : List AttackRow) (side : Side) (slot : ℕ) (h : Head) → InBytes side h → called_for start before h ≡ true → (a : Attempt) (state symbol : ℕ) → attempt station manual (side_number side) slot state symbol ≡ Some a → a.head ≡ h →
-      Enter (side_number side) slot state symbol ≡ enter_at side slot h → line_called kinds station manual start before (enter_at side slot h) ≡ true
-  enter_called before Station slot h b c a state symbol e f l =
-      let p : state ≡ h.states.manual = cc in
-      let q : symbol ≡ h.symbols.manual = cc in
-      called_at before 0 slot h.states.manual h.symbols.manual a h
-      (ap (λ (x : ℕ). attempt station manual 0 slot x h.symbols.manual) (sym p) ∙ ap (λ (y : ℕ). attempt station manual 0 slot state y) (sym q) ∙ e) f b.0 b.1 c
-  enter_called before Manual slot h b c a state symbol e f l =
-      let p : state ≡ h.states.station = cc in
-      let q : symbol ≡ h.symbols.station = cc in
-      called_at before 1 slot h.states.station h.symbols.station a h
-      (ap (λ (x : ℕ). attempt station manual 1 slot x h.symbols.station) (sym p) ∙ ap (λ (y : ℕ). attempt station manual 1 slot state y) (sym q) ∙ e) f b.0 b.1 c
-
-  -- the line of a slot was tried, or the slot has no rule there
-  pub slot_by_line : (before : List AttackRow) (side : Side) (slot : ℕ) (h : Head) (line : Line) (after : List AttackRow) → InBytes side h → line ≡ enter_at side slot h →
-      line_tried kinds station manual start before line after → slot_tried kinds station manual start before side slot h after
-  slot_by_line before side slot h line after b is t c state symbol a e f =
-      let s = same_head side slot state symbol a h e f in
-      subst (λ (l : Line). Tried kinds station manual start after l) (is ∙ sym s.line)
-      (t (ap (λ (l : Line). line_called kinds station manual start before l) is ∙ enter_called before side slot h b c a state symbol e f s.line))
-
-  pub slot_without : (before : List AttackRow) (side : Side) (slot : ℕ) (h : Head) (o : Option Rule) (after : List AttackRow) → o ≡ get_or (slots_of station manual side) slot None →
-      false ≡ rule_at side o h → slot_tried kinds station manual start before side slot h after
-  slot_without before side slot h o after is off c state symbol a e f =
-      absurd (both_ways (rule_at side o h) (sym off) (ap (λ (x : Option Rule). rule_at side x h) is ∙ (same_head side slot state symbol a h e f).rule))
-
   -- both sides were tried: no other side, and no slot past the last, has an attack
   no_attack : (side : Side) (slot state symbol : ℕ) (a : Attempt) → length (slots_of station manual side) ≤ slot → attempt station manual (side_number side) slot state symbol ≡ Some a → ⊥
   no_attack Station slot state symbol a h e =
@@ -168,12 +98,6 @@ module _ (kinds : ℕ → Option Kind) (station manual : List (Option Rule)) (st
       (subst (λ (l : List AttackRow). SlotTried kinds station manual start l side i h) f
       (y (subst (λ (l : List AttackRow). called_for start l h ≡ true) (sym e) (called_for_more start (said (take n was)) some h c))))))
 
-  pub side_ends : (n : ℕ) (was is : List Row) (p : ℕ) (side : Side) (i all : ℕ) (h : Head) →
-      WentOn kinds station manual start (usable was) n was (side_tried kinds station manual start (said (take n was)) side i h) p is → all ≤ i →
-      WentOn kinds station manual start (usable was) n was (side_tried kinds station manual start (said (take n was)) side all h) p is
-  side_ends n was is p side i all h a le =
-      went_for kinds station manual start n was is p _ (side_tried kinds station manual start (said (take n was)) side all h) a (λ d c slot l. d c slot (omega arith))
-
   -- one side after the other
   pub head_done : (n : ℕ) (was mid is : List Row) (p : ℕ) (r : Result ℕ Unfit) (h : Head) →
       WentOn kinds station manual start (usable was) n was (side_tried kinds station manual start (said (take n was)) Station (length station) h) p mid →
@@ -207,10 +131,6 @@ module _ (kinds : ℕ → Option Kind) (station manual : List (Option Rule)) (st
             (said_at n was num.0 blank_row (omega arith) (omega arith) ∙ sym (said_at done was num.0 blank_row (omega arith) (omega arith)) ∙ num.1)
             by.2 by.3 h by.4)
       ]
-
-  -- at a top that is there
-  pub top_by_head : (before : List AttackRow) (done : ℕ) (top : Option Head) (head : Head) (after : List AttackRow) → top ≡ Some head → new_tried kinds station manual start before done head after → top_tried kinds station manual start before done top after
-  top_by_head before done top head after t d h e = subst (λ (x : Head). new_tried kinds station manual start before done x after) (same_Some head h (sym t ∙ e)) d
 
   -- the tops of members, one after the other
   pub members_go_on : (n done : ℕ) (was mid is : List Row) (p q : ℕ) (ms : List Member) (i : ℕ) (top : Option Head) → n ≤ usable was → done ≤ n → i < length ms → top ≡ top_of (get_or ms i blank_member) →

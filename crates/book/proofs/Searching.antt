@@ -74,9 +74,6 @@ module _ (kinds : ℕ → Option Kind) (station manual : List (Option Rule)) (st
     joins = λ i h j g. tried_more rows more (Join i j) (omega arith, omega arith) (d.joins i h j g);
   }
 
-  pub done_none : (rows : List AttackRow) → DoneBelow kinds station manual start rows 0
-  done_none rows = record { tops = λ i h. absurd (omega arith); joins = λ i h. absurd (omega arith) }
-
   -- one row more is done with
   pub done_next : (rows : List AttackRow) (k : ℕ) → DoneBelow kinds station manual start rows k →
       ((row : AttackRow) → row_at rows k ≡ Some row → TopsTried kinds station manual start rows row) →

@@ -86,9 +86,3 @@ module _ (kinds : ℕ → Option Kind) (station manual : List (Option Rule)) (st
       WentOn kinds station manual start (usable was) n was done p is → (done (said (take p is)) → enough (said (take p is))) →
       WentOn kinds station manual start (usable was) n was enough p is
   went_for n was is p done enough a f = record { went = a.went; goal = f a.goal }
-
-  pub stepped_for : (n : ℕ) (was is : List Row) (r : Result ℕ Unfit) (done enough : List AttackRow → Type 0) →
-      Stepped kinds station manual start (usable was) n was done r is → ((rows : List AttackRow) → done rows → enough rows) →
-      Stepped kinds station manual start (usable was) n was enough r is
-  stepped_for n was is (Ok p) done enough a f = went_for n was is p done enough a (f (said (take p is)))
-  stepped_for n was is (Err u) done enough a f = a

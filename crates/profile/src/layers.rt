@@ -45,6 +45,8 @@ impl<L: Layering, P: Profile> Layer<L, P> {
     // The profile below. The layer makes of its may rules and must rules what is told here.
     pub fn below(&self) -> &P
         ensures value { result.now ≡ self.now.below }
+        ensures slots { ⟦<Layer<L, P> as Profile>⟧.rules self.now ≡ map (L.made self.now.layering) (P.Profile.rules self.now.below) }
+        ensures start { ⟦<Layer<L, P> as Profile>⟧.origin self.now ≡ P.Profile.origin self.now.below }
         ensures meaning { L.Means self.now.layering (P.Profile.rules self.now.below) (map (L.made self.now.layering) (P.Profile.rules self.now.below)) }
     {
         &self.below

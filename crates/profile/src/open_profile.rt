@@ -22,6 +22,8 @@ impl OpenProfile {
     // The marks of the events. What may happen is told by them, and nothing must.
     pub fn events(&self) -> &[bool; 12]
         ensures value { result.now ≡ self.now.events }
+        ensures slots { ⟦<OpenProfile as Profile>⟧.rules self.now ≡ open_slots self.now.events }
+        ensures start { ⟦<OpenProfile as Profile>⟧.origin self.now ≡ open_start }
         ensures meaning { Opened self.now.events (open_slots self.now.events) }
     {
         &self.events

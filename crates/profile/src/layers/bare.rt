@@ -1,5 +1,6 @@
 // The bare profile keeps what must happen: every slot whose rule is may is empty.
-ghost use Rattle.std.specs.Prelude.{◌≡◌, refl};
+ghost use Rattle.std.specs.Prelude.{◌≡◌, List, Option, refl};
+ghost use Rattle.profile.specs.declared.Rule.{Rule};
 ghost use Rattle.profile.specs.Layers.{bare_slot, Bared};
 ghost use Rattle.profile.specs.Kinds.{event_kind};
 ghost use Rattle.profile.specs.Layerings.{bare_keeps};
@@ -19,6 +20,8 @@ impl<P> Bare<P> {
     // What must happen in the profile below, and nothing else.
     pub fn new(below: P) -> Bare<P>
         ensures value { result.below ≡ below }
+        ensures made { ⟦<Baring as Layering>⟧.made result.layering ≡ bare_slot }
+        ensures means { (a b : List (Option Rule)) → ⟦<Baring as Layering>⟧.Means result.layering a b → Bared a b }
     {
         Layer {
             layering: Baring,

@@ -1,5 +1,6 @@
 // The loosened profile: must becomes may for a set of events.
-ghost use Rattle.std.specs.Prelude.{◌≡◌, refl};
+ghost use Rattle.std.specs.Prelude.{◌≡◌, List, Option, refl};
+ghost use Rattle.profile.specs.declared.Rule.{Rule};
 ghost use Rattle.profile.specs.Layers.{loosen_slot, Loosened};
 ghost use Rattle.profile.specs.Kinds.{event_kind};
 ghost use Rattle.profile.specs.Layerings.{loosen_keeps};
@@ -23,6 +24,8 @@ impl<P> Loosen<P> {
     pub fn new(events: [bool; 12], below: P) -> Loosen<P>
         ensures set { result.layering.events ≡ events }
         ensures value { result.below ≡ below }
+        ensures made { ⟦<Loosening as Layering>⟧.made result.layering ≡ loosen_slot events }
+        ensures means { (a b : List (Option Rule)) → ⟦<Loosening as Layering>⟧.Means result.layering a b → Loosened events a b }
     {
         Layer {
             layering: Loosening { events },

@@ -1,5 +1,6 @@
 // The renamed profile: each event is replaced by what a table tells for it.
-ghost use Rattle.std.specs.Prelude.{◌≡◌, refl};
+ghost use Rattle.std.specs.Prelude.{◌≡◌, List, Option, refl};
+ghost use Rattle.profile.specs.declared.Rule.{Rule};
 ghost use Rattle.profile.specs.Layers.{rename_slot, Renamed};
 ghost use Rattle.profile.specs.Layerings.{rename_keeps};
 ghost use Rattle.profile.specs.Meanings.{rename_means};
@@ -21,6 +22,8 @@ impl<P> Rename<P> {
     pub fn new(table: EventTable, below: P) -> Rename<P>
         ensures names { result.layering.table ≡ table }
         ensures value { result.below ≡ below }
+        ensures made { ⟦<Renaming as Layering>⟧.made result.layering ≡ rename_slot table }
+        ensures means { (a b : List (Option Rule)) → ⟦<Renaming as Layering>⟧.Means result.layering a b → Renamed table a b }
     {
         Layer {
             layering: Renaming { table },

@@ -73,6 +73,8 @@ impl Table {
     // The rules, one to a slot, in the order of their keys.
     pub fn rules(&self) -> &[Rule]
         ensures value { result.now ≡ table_rules self.now }
+        ensures slots { ⟦<Table as Profile>⟧.rules self.now ≡ map Some (table_rules self.now) }
+        ensures start { ⟦<Table as Profile>⟧.origin self.now ≡ table_start self.now }
         ensures law { LawfulTable (table_rules self.now) (table_start self.now) }
     {
         self.rules.as_slice()

@@ -1,4 +1,4 @@
-use Rattle.std.proofs.Common.{◌<◌, ◌≤◌, List, length, get_or, refl, arith}
+use Rattle.std.proofs.Common.{◌<◌, List, length, get_or, refl, arith}
 use Rattle.profile.specs.Kinds.{event_kind}
 use Rattle.game.specs.Rows.{head_of_starts}
 use Rattle.book.specs.declared.run.Turn.{Turn}

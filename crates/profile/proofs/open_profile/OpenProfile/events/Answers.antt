@@ -1,6 +1,5 @@
-use Rattle.std.proofs.Common.{refl}
 use Rattle.profile.specs.Meanings.{open_means}
 use Rattle.profile.proofs.open_profile.OpenProfile.events.Goals as goal
 
-pub returns : goal.returns
-returns c = record { value = refl; meaning = open_means c.args.self.now.events }
+pub returns-clause-meaning : goal.returns-clause-meaning
+returns-clause-meaning c = open_means c.args.self.now.events
