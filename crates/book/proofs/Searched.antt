@@ -13,10 +13,10 @@ use Rattle.book.proofs.Scanning.{held_part}
 use Rattle.book.proofs.Searching.{all_tried_settles}
 
 module _ (kinds : ℕ → Option Kind) (station manual : List (Option Rule)) (d : Draft) (was is : List Row) (p u n h : ℕ)
-    (u_is : u ≡ min (length was) 1024) (n_is : n ≡ min d.held u) (h_is : h ≡ max d.held p)
+    (u_is : u ≡ usable was) (n_is : n ≡ min d.held u) (h_is : h ≡ max d.held p)
     (w : Went kinds station manual d.start (usable was) n was p is) where
   held_before : take n was ≡ held_rows was d.held
-  held_before = let e : n ≡ n - 0 = omega arith in ap (λ k. take k was) e ∙ held_part was d.held u n u_is n_is
+  held_before = let e : n ≡ n - 0 = omega arith in let f : u ≡ min (length was) 1024 = omega arith in ap (λ k. take k was) e ∙ held_part was d.held u n f n_is
 
   counted : p ≡ min h (min (length is) 1024)
   counted =

@@ -1,7 +1,7 @@
 // Replies to an attack, and the members that they lead to.
 ghost use Rattle.std.specs.Prelude.{◌≡◌, []};
 ghost use Rattle.profile.specs.Kinds.{event_kind};
-ghost use Rattle.game.specs.Game.{of_replier, playable};
+ghost use Rattle.game.specs.Game.{of_attacker, of_replier, playable};
 ghost use Rattle.game.specs.Rows.{pushed_pairs, leads_to, answers, gathered};
 ghost use Rattle.book.specs.Widths.{fitted};
 ghost use Rattle.book.specs.Sides.{player, numbered_side, paired};
@@ -46,8 +46,18 @@ impl Side {
         Pair { station, manual }
     }
 
+    // Of a pair, what belongs to the side that attacks.
+    pub(crate) fn attacking(self, pair: Pair) -> u8
+        ensures { result ≡ of_attacker (player self) pair.station pair.manual }
+    {
+        match self {
+            Side::Station => pair.station,
+            Side::Manual => pair.manual,
+        }
+    }
+
     // Of a pair, what belongs to the side that replies.
-    fn replying(self, pair: Pair) -> u8
+    pub(crate) fn replying(self, pair: Pair) -> u8
         ensures { result ≡ of_replier (player self) pair.station pair.manual }
     {
         match self {

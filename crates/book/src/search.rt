@@ -10,7 +10,7 @@ ghost use Rattle.book.specs.Deciding.{OwnRows, DecidesRightly};
 ghost use Rattle.book.specs.Trying.{stuck_by, Stepped, line_tried, slot_tried, side_tried, head_tried, new_tried, top_tried, tops_tried, pair_tried, all_tried};
 
 use crate::Refusal;
-use crate::held::is_called_for;
+use crate::held::{is_called_for, usable_rows};
 use crate::making::{HeldRows, Sides};
 use crate::reply::Side;
 use crate::state::{Completed, Draft};
@@ -34,9 +34,8 @@ fn is_stuck(why: Refusal) -> bool
 fn has_rule_at(side: Side, slot: Option<Rule>, head: Head) -> bool
     ensures { result ≡ rule_at side slot head }
 {
-    slot.is_some_and(|rule| match side {
-        Side::Station => rule.state == head.states.station && rule.top == head.symbols.station,
-        Side::Manual => rule.state == head.states.manual && rule.top == head.symbols.manual,
+    slot.is_some_and(|rule| {
+        rule.state == side.attacking(head.states) && rule.top == side.attacking(head.symbols)
     })
 }
 
@@ -45,19 +44,11 @@ fn enter_line(side: Side, slot: usize, head: Head) -> Line
     ensures line { result ≡ enter_at side slot head }
     ensures bytes { InBytes side head }
 {
-    match side {
-        Side::Station => Line::Enter {
-            side: 0,
-            slot,
-            state: usize::from(head.states.manual),
-            symbol: usize::from(head.symbols.manual),
-        },
-        Side::Manual => Line::Enter {
-            side: 1,
-            slot,
-            state: usize::from(head.states.station),
-            symbol: usize::from(head.symbols.station),
-        },
+    Line::Enter {
+        side: side as usize,
+        slot,
+        state: usize::from(side.replying(head.states)),
+        symbol: usize::from(side.replying(head.symbols)),
     }
 }
 
@@ -272,7 +263,7 @@ impl Draft {
             manual,
             start,
         };
-        let most = rows.len().min(1024);
+        let most = usable_rows(rows);
         match sides.close(rows, self.held.min(most)) {
             Ok(count) => Ok(Completed {
                 start,

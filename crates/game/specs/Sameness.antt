@@ -2,6 +2,7 @@
 use Rattle.std.specs.Prelude.{◌≡◌, Bool, true, false, ◌&&◌, Decides}
 use Rattle.std.proofs.Common.{rules}
 use Rattle.std.specs.Cmp.{IsPartialEquivalence, partial_equiv_from_equiv, decided}
+use Rattle.game.specs.declared.Pair.{Pair}
 use Rattle.game.specs.declared.Head.{Head}
 use Rattle.game.specs.declared.Pairs.{Pairs}
 use Rattle.game.specs.declared.Pairs.TheVariants.{Zero, One, Two}
@@ -21,6 +22,9 @@ pairs_eq (Two p u) (Two q v) = pair_eq p q && pair_eq u v
 
 abbrev pub same_member : Member → Member → Bool
 same_member m n = pairs_eq m.symbols n.symbols && pair_eq m.states n.states
+
+pub pair_eq_decides : (p q : Pair) → Decides (pair_eq p q) (p ≡ q)
+pair_eq_decides p q = search rules
 
 pub head_eq_decides : (h k : Head) → Decides (head_eq h k) (h ≡ k)
 head_eq_decides h k = search rules

@@ -200,8 +200,6 @@ pub fn read_profile(text: &[u8], profile: &mut Table) -> Result<(), Fault>
 }
 
 // No text has two readings.
-pub fn texts_have_one_reading() -> u8
+pub fn texts_have_one_reading()
     ensures { OneReading }
-{
-    0
-}
+{}
