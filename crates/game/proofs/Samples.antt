@@ -1,6 +1,6 @@
 -- The worked examples, by computing and by the few cases there are.
-use Rattle.std.proofs.Common.{◌≡◌, ℕ, true, ◌⊎◌, List, [], ◌∷◌, Some, None, Option, sym, refl, ap, ◌∙◌, subst, inl, inr, ⊎_elim, arith}
-use Rattle.std.proofs.lemmas.Option.{none-some, same_Some}
+use Rattle.std.proofs.Common.{◌≡◌, true, ◌⊎◌, [], ◌∷◌, Some, sym, refl, ap, ◌∙◌, subst, inl, inr, ⊎_elim}
+use Rattle.std.proofs.lemmas.Option.{same_Some}
 use Rattle.std.proofs.lemmas.Bool.{false≢true}
 use Rattle.ordered.specs.Laws.{In}
 use Rattle.profile.specs.declared.Mode.TheVariants.{May, Must}
@@ -10,7 +10,7 @@ use Rattle.game.specs.Members.{AttackRow}
 use Rattle.game.specs.Systems.{Configuration}
 use Rattle.game.specs.Game.{Position, Side, by_station, by_manual, playable, applies, after, outcome, Attack, Reply, Wins}
 use Rattle.game.specs.Rows.{head_on, starts, Derivable, enter_start, enter_top, join, refuting}
-use Rattle.game.specs.Examples.{kinds, at, head, member, pair, row, moving, staying, stay, origin, opening, closing, both, opening_only, KindsTellWhatIsPushed, ModesTellWhoMayPlay, HeadsHaveTheStationFirst, NothingComesOfNothing, JoinsKeepTheLowerPair, MembersAreInThisOrder, HeadsAreCalledFor, RoundsAreCounted}
+use Rattle.game.specs.Examples.{kinds, at, head, member, pair, row, moving, staying, stay, origin, opening, closing, both, opening_only, KindsTellWhatIsPushed, ModesTellWhoMayPlay, RoundsAreCounted}
 use Rattle.game.proofs.Testing.{computed_joins}
 use Rattle.game.proofs.Growing.{defended_refines}
 
@@ -18,10 +18,6 @@ use Rattle.game.proofs.Growing.{defended_refines}
 only : (r s : Rule) → In (Some r) (Some s ∷ []) → r ≡ s
 only r s (inl e) = same_Some r s e
 only r s (inr k) = absurd k
-
-not_in_empty : (r : Rule) → In (Some r) (None ∷ []) → ⊥
-not_in_empty r (inl e) = none-some r (sym e)
-not_in_empty r (inr k) = k
 
 pub pushes : KindsTellWhatIsPushed
 pushes = record {
@@ -73,77 +69,6 @@ modes = record {
   may_does_not_refine_nothing = enter_start by_station (staying May) (inl refl, refl, refl);
   nothing_refines_may = ((λ pos. true), (λ pos e side r t. absurd (never pos side r t)), refl);
   must_refines_may = defended_refines kinds (stay Must) (stay May) origin (λ pos. pos.station ≡ pos.manual) same_stays refl;
-}
-
-pub heads : HeadsHaveTheStationFirst
-heads = record {
-  side_0 = refl;
-  side_1 = refl;
-  no_side_2 = refl;
-  starts_side_by_side = refl;
-  station_attacks_at = (inl refl, refl, refl);
-  manual_attacks_at = (inl refl, refl, refl);
-  manual_does_not_attack_swapped = λ t. false≢true t.2;
-  row_of_station = refl;
-  row_of_manual = refl;
-}
-
-empty_slots : (side : Side) (r : Rule) (pos : Position) → Attack (None ∷ []) (None ∷ []) side r pos → ⊥
-empty_slots by_station r pos t = not_in_empty r t.0
-empty_slots by_manual r pos t = not_in_empty r t.0
-
-empty_stacks : (station manual : List (Option Rule)) (side : Side) (r : Rule) (p q : ℕ) → Attack station manual side r (record { station = at p []; manual = at q [] }) → ⊥
-empty_stacks station manual by_station r p q t = false≢true t.2
-empty_stacks station manual by_manual r p q t = false≢true t.2
-
-no_stack : (state : ℕ) (c : Configuration) (x : ℕ) (xs : List ℕ) → at state [] ≡ c → c.stack ≡ x ∷ xs → ⊥
-no_stack state c x xs e f =
-    let d : ◌≡◌ {A = List ℕ} [] (x ∷ xs) = ap (λ (y : Configuration). y.stack) e ∙ f in
-    cc
-
-pub nothing : NothingComesOfNothing
-nothing = record {
-  empty_slot_does_not_answer = refl;
-  empty_slot_beside_a_rule = refl;
-  empty_slots_do_not_attack = empty_slots;
-  empty_slots_have_no_transition = λ c d event t. not_in_empty t.0 t.1;
-  empty_stack_has_no_transition = λ kinds slots state event d t. no_stack state (at t.0.state (t.0.top ∷ t.3.0)) t.0.top t.3.0 t.3.1 refl;
-  no_attack_on_empty_stacks = empty_stacks;
-  no_reply_of_the_station_on_an_empty_stack = λ station manual r s c p t. false≢true t.3;
-  no_reply_on_an_empty_stack = λ station manual r s c q t. false≢true t.3;
-}
-
-pub joins : JoinsKeepTheLowerPair
-joins = record {
-  two_pairs = refl;
-  one_pair = refl;
-  no_members_left = refl;
-  the_same_member_once = refl;
-  not_at_another_head = refl;
-  not_at_a_member_before_the_last = refl;
-  not_where_the_second_has_a_pair = refl;
-  not_where_the_last_has_no_pair = refl;
-  not_where_there_is_no_member = refl;
-}
-
-pub order : MembersAreInThisOrder
-order = record {
-  pairs_first = refl;
-  then_the_station_state = refl;
-  then_the_manual_state = refl;
-  then_the_upper_pair = refl;
-  then_the_lower_pair = refl;
-  not_twice = refl;
-}
-
-pub calls : HeadsAreCalledFor
-calls = record {
-  start = refl;
-  no_other = refl;
-  upper_pair = refl;
-  not_the_lower_pair = refl;
-  not_the_head_of_a_row = refl;
-  no_top_without_a_pair = refl;
 }
 
 -- opening, then closing where the manual cannot

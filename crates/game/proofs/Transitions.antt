@@ -7,7 +7,6 @@ use Rattle.profile.specs.declared.Kind.{Kind}
 use Rattle.profile.specs.declared.Rule.{Rule}
 use Rattle.game.specs.Systems.{Configuration, Leads, Refinement, induced}
 use Rattle.game.specs.Game.{Position, by_station, by_manual, is_must, matches, applies, after, Defends}
-use Rattle.game.specs.Theorems.{PlaysAreTransitions}
 
 pub must_means : (m : Mode) → is_must m ≡ true → m ≡ Must
 must_means May e = absurd (false≢true e)
@@ -37,26 +36,6 @@ leads_applies kinds r c d (below, e, f) = (
 )
 
 module _ (kinds : ℕ → Option Kind) (station manual : List (Option Rule)) where
-  pub plays : PlaysAreTransitions kinds station manual
-  plays = record {
-    station_attacks = λ pos event to. (
-      (λ t. (t.0, t.1.0, t.2, subst (λ (d : Configuration). Leads kinds t.0 pos.station d) t.3 (applies_leads kinds t.0 pos.station t.1.2))),
-      (λ t. let l = leads_applies kinds t.0 pos.station to t.3 in (t.0, (t.1, refl, l.0), t.2, l.1)),
-    );
-    manual_replies = λ pos r to. (
-      (λ t. (t.0, t.1.0, t.1.2, subst (λ (d : Configuration). Leads kinds t.0 pos.manual d) t.2 (applies_leads kinds t.0 pos.manual t.1.3))),
-      (λ t. let l = leads_applies kinds t.0 pos.manual to t.3 in (t.0, (t.1, refl, t.2, l.0), l.1)),
-    );
-    manual_attacks = λ pos event to. (
-      (λ t. (t.0, t.1.0, t.2, subst (λ (d : Configuration). Leads kinds t.0 pos.manual d) t.3 (applies_leads kinds t.0 pos.manual t.1.2), must_means t.0.mode t.1.1)),
-      (λ t. let l = leads_applies kinds t.0 pos.manual to t.3 in (t.0, (t.1, must_shown t.0.mode t.4, l.0), t.2, l.1)),
-    );
-    station_replies = λ pos r to. (
-      (λ t. (t.0, t.1.0, t.1.2, subst (λ (d : Configuration). Leads kinds t.0 pos.station d) t.2 (applies_leads kinds t.0 pos.station t.1.3), must_means t.0.mode t.1.1)),
-      (λ t. let l = leads_applies kinds t.0 pos.station to t.3 in (t.0, (t.1, must_shown t.0.mode t.4, t.2, l.0), l.1)),
-    );
-  }
-
   -- a relation of any propositions
   module _ (R : Position → Type 0) where
     abbrev On : Configuration → Configuration → Type 0

@@ -9,11 +9,11 @@ pub struct Place {
     pub offset: usize,
 }
 
-// What is wrong with the bytes of a text.
+// What is wrong with the bytes of a text. Causes are numbered on from 10, layer after layer.
 #[derive(Clone, Copy, PartialEq, Eq, Debug)]
 pub enum WordCause {
     // The text has over 20,000 bytes.
-    TextTooLong,
+    TextTooLong = 10,
     // A byte is neither blank nor visible.
     ByteNotAllowed,
     // A word has over 16 bytes.
@@ -24,7 +24,7 @@ pub enum WordCause {
 #[derive(Clone, Copy, PartialEq, Eq, Debug)]
 pub enum SectionCause {
     // Another keyword or mode is due, or a word is due where the text ends, or none where it goes on.
-    WordNotDue,
+    WordNotDue = 13,
     // A count or number is not plain or not in range.
     NumberNotDue,
 }
@@ -33,7 +33,7 @@ pub enum SectionCause {
 #[derive(Clone, Copy, PartialEq, Eq, Debug)]
 pub enum ProfileCause {
     // There is no state, symbol or event of this name.
-    NameUnknown,
+    NameUnknown = 15,
     // The section lists this name already.
     NameTwice,
     // The section lists this rule already, the mode aside.
@@ -73,19 +73,14 @@ impl From<ProfileCause> for Cause {
 }
 
 impl Cause {
-    // The number by which the cause is told. By cases: all numbers that partners are told stand in one table.
+    // The number by which the cause is told.
     pub fn number(self) -> u8
         ensures { result ≡ cause_number self }
     {
         match self {
-            Cause::InWords(WordCause::TextTooLong) => 10,
-            Cause::InWords(WordCause::ByteNotAllowed) => 11,
-            Cause::InWords(WordCause::WordTooLong) => 12,
-            Cause::InSections(SectionCause::WordNotDue) => 13,
-            Cause::InSections(SectionCause::NumberNotDue) => 14,
-            Cause::InProfile(ProfileCause::NameUnknown) => 15,
-            Cause::InProfile(ProfileCause::NameTwice) => 16,
-            Cause::InProfile(ProfileCause::RuleTwice) => 17,
+            Cause::InWords(of_words) => of_words as u8,
+            Cause::InSections(of_section) => of_section as u8,
+            Cause::InProfile(of_profile) => of_profile as u8,
         }
     }
 
