@@ -22,8 +22,8 @@ LINES = {
     "enums": ("an enum of the repository's own", r"^\s*(pub(\(crate\))? )?enum "),
     "loops": ("a loop over numbers, and a while", r"for \w+ in [^{]*\.\.|\bwhile "),
     "by_hand": ("equality, order, conversion or printing by hand",
-                r"impl.* (PartialEq|Eq|PartialOrd|Ord|Clone|Default|TryFrom<.*>|From<.*>|fmt::Display|Error|Keyed) for"
-                r"|fn (same_\w+|is_same|alike|of_one_kind|number|layer|answer_\w+|put_(?!members|in)\w+|mode_word|event_name"
+                r"impl.* (PartialEq|Eq|PartialOrd|Ord|Clone|Default|Keyed) for"
+                r"|fn (same_(pair|head|row)|is_same|alike|of_one_kind|number\(self|layer|answer_\w+|put_(?!among|pairs)\w+|mode_word|event_name"
                 r"|is_(blank|visible|digit|bare|among|stuck)|tops\w*|no_pairs?|lex_at_most|entry_or|copied)\b"),
     "buffers": ("an array of fixed length", r"\[[^\]\[]*; ?[\w ]+\]"),
     "lengths": ("a length or an offset beside what it measures", r"\b(count|at|held|n): usize\b"),
