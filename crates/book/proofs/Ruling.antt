@@ -17,7 +17,7 @@ use Rattle.game.proofs.Testing.{called_for_means, called_for_shown, join_compute
 use Rattle.book.specs.declared.Refusal.{Refusal}
 use Rattle.book.specs.declared.Refusal.TheVariants.{NoSuchAttack, HeadNotCalledFor, TooManyMembers, RowAlreadyHeld, NoRowFree, RowNotHeld, RowsDoNotJoin, RowsDoNotFit}
 use Rattle.book.specs.Offers.{and_then, row_at, Attempt, by_station_rule, by_manual_rule, by_side, attempt, row_eq, entered_row, joined_row, join_of, line_row, attempt_called, line_called, offer}
-use Rattle.book.specs.Rulings.{head_of_attack, Makes, Called, MakesNothing, IsEnter, RowMissing, RowsThere, Ruled, OffersByExample}
+use Rattle.book.specs.Rulings.{head_of_attack, Makes, Called, MakesNothing, IsEnter, RowMissing, RowsThere, Ruled}
 use Rattle.book.proofs.Equals.{any_same_means, any_same_shown, none_same_means}
 use Rattle.book.proofs.Tested.{err_is_not_ok}
 
@@ -295,37 +295,3 @@ module _ (kinds : ℕ → Option Kind) (station manual : List (Option Rule)) (st
 
   pub follows : (free : Bool) (line : Line) (answer : Result AttackRow Refusal) → ExactlyWhen (offer kinds station manual start free rows line ≡ answer) (Ruled kinds station manual start rows free line answer)
   follows free line answer = ((λ e. subst (λ (x : Result AttackRow Refusal). Ruled kinds station manual start rows free line x) e (ruled free line)), ruled_only free line answer)
-
-pub examples : OffersByExample
-examples = record {
-  the_station_attacks = refl;
-  the_manual_attacks_by_must = refl;
-  the_station_stands_first_in_the_head = refl;
-  not_by_may = refl;
-  no_third_side = refl;
-  no_slot_past_the_end = refl;
-  no_empty_slot = refl;
-  no_attack_before_no_head = refl;
-  not_at_another_head = refl;
-  at_the_top_of_a_member = refl;
-  not_at_a_number_over_a_byte = refl;
-  nor_at_such_a_symbol = refl;
-  with_twelve_members = refl;
-  not_with_thirteen_members = refl;
-  head_before_width = refl;
-  head_before_twice = refl;
-  not_twice = refl;
-  twice_before_no_room = refl;
-  not_without_room = refl;
-  no_first_row = refl;
-  no_second_row = refl;
-  a_join_keeps_the_lower_pair = refl;
-  rows_have_their_numbers = refl;
-  no_join_of_thirteen_members = refl;
-  no_join_twice = refl;
-  no_join_without_room = refl;
-  not_at_another_top = refl;
-  not_with_a_pair_in_the_second = refl;
-  not_the_other_way_round = refl;
-  not_without_members = refl;
-}
