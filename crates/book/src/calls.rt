@@ -62,7 +62,7 @@ impl Draft {
         number
     }
 
-    // An enter: the number of the row that is appended, or a refusal.
+    // An enter: the number of the row that is appended, or a refusal. Public, and in any numbers: a call may give any.
     pub fn enter<S: Profile, M: Profile>(
         &mut self,
         station: &S,

@@ -13,7 +13,7 @@ pub(crate) fn tops(m: &Member, head: Head) -> bool
     m.top() == Some(head)
 }
 
-// Whether a head is the top of a member of a row. By a loop: a test of a row looks through its members in turn.
+// Whether a head is the top of a member of a row. By a loop: a rule of the project for tests of a row (docs/DECISIONS.md).
 fn tops_row(row: &Row, head: Head) -> bool
     ensures { result ≡ tops_row head (row_of row.now) }
 {
@@ -33,7 +33,7 @@ pub(crate) fn is_called_for(start: Head, rows: &[Row], head: Head) -> bool
     start == head || rows.iter().any(|row| tops_row(row, head))
 }
 
-// Whether a row is among the rows.
+// Whether a row is among the rows. A name of its own: an offer's contract speaks of it.
 pub(crate) fn is_among(rows: &[Row], row: &Row) -> bool
     ensures { result ≡ any_of (row_eq (row_of row.now)) (said rows.now) }
 {

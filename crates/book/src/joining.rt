@@ -11,7 +11,7 @@ use crate::width::{Members, put};
 use game::{Member, Pairs, Row};
 use ordered::Held;
 
-// Whether no member has a pair. By a loop: a test of a row looks through its members in turn.
+// Whether no member has a pair. By a loop: a rule of the project for tests of a row (docs/DECISIONS.md).
 fn no_pairs(members: &[Member]) -> bool
     ensures { result ≡ pairless members.now }
 {

@@ -19,7 +19,7 @@ use crate::width::{Members, row_with};
 use game::{Head, Line, Row};
 use profile::Profile;
 
-// The rows that are held, and whether a usable row is free.
+// The rows that are held, and whether a usable row is free: a yes or no, as the definition of an offer takes it.
 #[derive(Clone, Copy)]
 pub(crate) struct HeldRows<'a> {
     rows: &'a [Row],
@@ -81,7 +81,7 @@ pub(crate) struct Sides<'a, S, M> {
 }
 
 impl<'a, S: Profile, M: Profile> Sides<'a, S, M> {
-    // The members that the replies to an attack lead to.
+    // The members that the replies to an attack lead to. By cases: the two profiles are of two types.
     fn reply_members(&self, attack: Attack) -> Result<Members, Refusal>
         ensures { result ≡ fitted (entered event_kind (S.Profile.rules self.now.station.now) (M.Profile.rules self.now.manual.now) (player attack.side) attack.rule attack.head).members }
     {

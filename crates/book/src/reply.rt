@@ -46,7 +46,7 @@ impl Side {
         Pair { station, manual }
     }
 
-    // Of a pair, what belongs to the side that attacks.
+    // Of a pair, what belongs to the side that attacks. Two names for the two halves say more than one with a flag.
     pub(crate) fn attacking(self, pair: Pair) -> u8
         ensures { result ≡ of_attacker (player self) pair.station pair.manual }
     {

@@ -23,7 +23,7 @@ pub(crate) fn put(members: &mut Members, m: Member) -> Result<(), Refusal>
     }
 }
 
-// A row of these members, with blank places past them.
+// A row of these members, with blank places past them: a row lies in lent memory and is written whole.
 pub(crate) fn row_with(head: Head, members: &Members, line: Line) -> Row
     ensures { result ≡ written (record { head = head; members = members.now }) line }
 {

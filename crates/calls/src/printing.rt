@@ -6,7 +6,7 @@ use book::run::Turn;
 use game::Row;
 use std::alloc::AllocError;
 
-// A line for each call.
+// A line for each call: a loop around what `Display` prints.
 pub fn put_turns(out: &mut String, turns: &[Turn]) -> Result<(), AllocError>
     ensures { OnOk result (string_bytes out.new ≡ string_bytes out.old ++ turns_text turns.now) }
 {

@@ -68,7 +68,7 @@ impl Member {
         }
     }
 
-    // What members are ordered by: the number of pairs, the states, the upper pair, the lower pair.
+    // What members are ordered by: the number of pairs, the states, the upper pair, the lower pair. An array, always full.
     // By hand: a derived order would have the states before the number of pairs.
     pub fn numbers(&self) -> [u8; 7]
         ensures { result ≡ member_numbers self.now }

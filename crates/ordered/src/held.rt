@@ -6,7 +6,8 @@ ghost use Rattle.ordered.specs.Laws.{by_key, LawfulHolding};
 use crate::{Keyed, Unplaced};
 use std::marker::Model;
 
-// At most N elements in places of its own, of which the first `count` are held. Clauses see those, in their order.
+// At most N elements in places of its own, of which the first `count` are held. Clauses see those, in their order. Places and a
+// count, as `insert` takes them: the kit's vectors of fixed room know no order, so that insertion would be written twice.
 #[derive(Drop)]
 pub struct Held<T: Copy, const N: usize> {
     places: [T; N],

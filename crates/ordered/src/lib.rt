@@ -44,7 +44,7 @@ pub enum Unplaced {
     Full,
 }
 
-// Whether the first list of numbers is at most the second, lexicographically.
+// Whether the first list of numbers is at most the second, lexicographically. Under a name, whose contract has our definition.
 pub fn lex_at_most(a: &[u8], b: &[u8]) -> bool
     ensures { result ≡ lex_le a.now b.now }
 {
@@ -73,7 +73,7 @@ fn seek<T: Keyed>(items: &[T], x: &T) -> Result<usize, usize>
     }
 }
 
-// Where `x` goes among the first `count` of the places, or why it cannot. A double is told before want of room.
+// Where `x` goes among the first `count` of the places, which are lent with their count, or why it cannot. A double is told before want of room.
 fn admit<T: Keyed>(items: &[T], count: usize, x: &T) -> Result<usize, Unplaced>
     ensures { result ≡ insert_answer (by_key T.Keyed.key T.Keyed.le) x.now count items.now }
 {

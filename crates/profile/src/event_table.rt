@@ -6,6 +6,7 @@ pub mod calls;
 
 #[derive(Clone, Copy)]
 pub struct EventTable {
+    // An entry for each event, in place, always full.
     events: [u8; 12],
     ghost keeps: { keeps_kinds event_kind events ≡ true },
 }

@@ -9,6 +9,7 @@ ghost use Rattle.profile.specs.Layerings.{layer_lawful};
 use crate::{Profile, Rule};
 
 pub mod bare;
+pub mod defined;
 pub mod loosen;
 pub mod rename;
 

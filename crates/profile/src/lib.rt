@@ -21,6 +21,7 @@ pub use event_table::EventTable;
 pub use event_table::calls::NotRenaming;
 pub use interface::Profile;
 pub use layers::bare::{Bare, Baring};
+pub use layers::defined::layerings_are_as_defined;
 pub use layers::loosen::{Loosen, Loosening};
 pub use layers::rename::{Rename, Renaming};
 pub use layers::{Layer, Layering};
@@ -45,7 +46,7 @@ pub enum Kind {
 }
 
 impl Kind {
-    // How many symbols a rule of this kind puts in the place of the top one.
+    // How many symbols a rule of this kind puts in the place of the top one. A count, and not the number of a case.
     pub fn symbols(self) -> usize
         ensures { result ≡ symbols_used self }
     {
@@ -83,7 +84,7 @@ pub struct Rule {
 }
 
 impl Rule {
-    // What rules are ordered by: all but the mode.
+    // What rules are ordered by: all but the mode. An array that is always full.
     pub fn key(&self) -> [u8; 6]
         ensures { result ≡ rule_key self.now }
     {
@@ -100,6 +101,7 @@ impl Rule {
         if self.state > 7 || self.next > 7 || self.top > 15 || self.upper > 15 || self.lower > 15 {
             return false;
         }
+        // By cases: each kind asks something else, and no kind refuses.
         match kind_of(self.event) {
             Some(Kind::Open) => true,
             Some(Kind::Step) => self.lower == 0,

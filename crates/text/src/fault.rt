@@ -84,7 +84,7 @@ impl Cause {
         }
     }
 
-    // The layer that found the fault: 1 words, 2 sections, 3 profiles.
+    // The layer that found the fault: 1 words, 2 sections, 3 profiles. By cases: a case with a value in it has no number.
     pub fn layer(self) -> u8
         ensures { result ≡ cause_layer self }
     {
@@ -102,6 +102,9 @@ pub struct Fault<C = Cause> {
     pub cause: C,
     pub place: Place,
 }
+
+// A fault of the words alone, as the first layer finds it.
+pub type WordFault = Fault<WordCause>;
 
 impl<C> Fault<C> {
     // A fault whose cause may be that of one layer.

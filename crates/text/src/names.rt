@@ -30,7 +30,7 @@ pub(crate) fn mode_word(mode: Mode) -> &'static [u8]
     }
 }
 
-// The name of an event; no bytes where there is no such event.
+// The name of an event; no bytes where there is no such event. A number, since a rule may hold one that is no event's.
 pub(crate) fn event_name(event: u8) -> &'static [u8]
     ensures word { result.now ≡ event_name event }
     ensures bound { length result.now ≤ 7 }

@@ -70,7 +70,7 @@ impl<'a> Model for Vocabulary<'a> {
 }
 
 impl Vocabulary<'_> {
-    // Takes a state.
+    // Takes a state. Apart from symbols, since each promises the bound of its own list.
     fn state(&self, reader: &mut Reader<'_>) -> Result<u8, Fault>
         ensures value { stepped result reader.new ≡ read_index self.now.states reader.old }
         ensures bound { IfOk result (λ i. i < 8) }
@@ -86,7 +86,7 @@ impl Vocabulary<'_> {
         index(reader, self.symbols.as_slice())
     }
 
-    // Takes a symbol where one is used; where none is, it is 0.
+    // Takes a symbol where one is used; where none is, it is 0. With a flag, as the definition reads it.
     fn symbol_if(&self, reader: &mut Reader<'_>, used: bool) -> Result<u8, Fault>
         ensures value { stepped result reader.new ≡ read_symbol_if used self.now.symbols reader.old }
         ensures bound { IfOk result (λ i. i < 16) }

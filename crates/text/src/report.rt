@@ -103,7 +103,8 @@ pub fn write_fault(fault: &Fault, out: &mut [u8]) -> Result<usize, TooFewBytes>
     lend(fault, out)
 }
 
-// A fault is printed as the line of its refusal, which has at most 100 bytes.
+// A fault is printed as the line of its refusal, which has at most 100 bytes. By way of lent bytes, so that one function makes
+// that line: written anew with `write!`, it would stand here twice.
 impl fmt::Display for Fault {
     ghost output = { λ f. Some (refusal_line f) };
 

@@ -78,6 +78,7 @@ pub fn finish(reader: &mut Reader<'_>) -> Result<(), Fault>
     ensures value { result ≡ read_end reader.old }
     ensures goes_on { GoesOn Keyword reader.old reader.new }
 {
+    // By cases: an end is what is wanted here, and a word the fault.
     match reader.next(Due::Keyword)? {
         None => Ok(()),
         Some(word) => Err(Fault::new(SectionCause::WordNotDue, word.place())),

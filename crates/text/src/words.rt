@@ -1,5 +1,5 @@
 // Words (layer 1): runs of visible bytes between blanks, each a part of the text that was handed over.
-ghost use Rattle.std.specs.Prelude.{◌≡◌, ◌≤◌, IfOk, OnErr};
+ghost use Rattle.std.specs.Prelude.{◌≡◌, ◌^◌, ◌<◌, ◌≤◌, IfOk, OnErr};
 ghost use Rattle.text.specs.Faults.{place_at};
 ghost use Rattle.text.specs.Words.{is_blank, run_end, word_at, next_word, begun, length_judged, spelled, taken, seen, text_end, GoesOn, BlanksGone, WordIsPart};
 
@@ -34,6 +34,7 @@ impl<'a> Word<'a> {
         }
     }
 
+    // Words are an enum: a rule of the project. Its bytes and its place are one pattern each.
     pub fn bytes(self) -> &'a [u8]
         ensures { result.now ≡ (spelled self.entry).bytes }
     {
@@ -51,6 +52,7 @@ impl<'a> Word<'a> {
     }
 }
 
+// A name of its own: runs and skips both end by it.
 fn is_blank(b: u8) -> bool
     ensures { result ≡ is_blank b }
 {
@@ -77,7 +79,8 @@ impl<'a> Reader<'a> {
 
     // The place where the text ends.
     pub fn end(&self) -> Place
-        ensures { result ≡ place_at (text_end self.now) }
+        ensures value { result ≡ place_at (text_end self.now) }
+        ensures bound { text_end self.now < 2 ^ 64 }
     {
         Place {
             offset: self.at + self.rest.len(),
@@ -89,7 +92,7 @@ impl<'a> Reader<'a> {
         ensures value { result ≡ run_end self.now.bytes self.now.at }
         ensures bound { IfOk result (λ e. (self.now.at ≤ e) × (e ≤ text_end self.now)) }
     {
-        // Byte by byte: a text is taken apart as its first byte and the rest.
+        // By first byte and rest: a rule of the project for texts (docs/DECISIONS.md).
         let mut rest = self.rest;
         let mut end = self.at;
         while let [b, more @ ..] = rest {
@@ -128,7 +131,7 @@ impl<'a> Reader<'a> {
         ensures left { BlanksGone result self.old self.new }
         ensures end { text_end self.new ≡ text_end self.old }
     {
-        // Byte by byte, as a run.
+        // By first byte and rest, as a run.
         while let [b, more @ ..] = self.rest {
             if !is_blank(*b) {
                 return self.take_word(due).map(Some);

@@ -11,7 +11,7 @@ use itoa::{Buffer, Integer};
 pub struct TooFewBytes;
 
 impl TooFewBytes {
-    // The number by which the refusal is told.
+    // The number by which the refusal is told, as the page on refusals counts them all.
     pub fn number(self) -> u8
         ensures { result ≡ too_few_bytes }
     {
@@ -58,7 +58,8 @@ impl Lent<'_> {
     }
 }
 
-// What can be told in lent bytes: its text, and how long that is at most.
+// What can be told in lent bytes: its text, and how long that is at most. Not `fmt::Display`: a standard writer promises only
+// what a successful write leaves, and what is told here fails for nothing but too few bytes.
 pub(crate) trait Told {
     ghost told: { Self → List ℕ };
 

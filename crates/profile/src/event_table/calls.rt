@@ -18,7 +18,7 @@ impl NotRenaming {
     }
 }
 
-// Whether there are two such events, of one kind.
+// Whether there are two such events, of one kind. A name of its own: an event over 11 has no kind to compare.
 fn of_one_kind(a: u8, b: u8) -> bool
     ensures { result ≡ same_kind (event_kind a) (event_kind b) }
 {

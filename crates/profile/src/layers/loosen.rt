@@ -20,7 +20,7 @@ pub struct Loosening {
 pub type Loosen<P> = Layer<Loosening, P>;
 
 impl<P> Loosen<P> {
-    // The profile below, in which the events that are marked no longer must happen.
+    // The profile below, in which the events that are marked no longer must happen. Each layer is made from parts of its own.
     pub fn new(events: [bool; 12], below: P) -> Loosen<P>
         ensures set { result.layering.events ≡ events }
         ensures value { result.below ≡ below }

@@ -18,7 +18,7 @@ pub struct Renaming {
 pub type Rename<P> = Layer<Renaming, P>;
 
 impl<P> Rename<P> {
-    // The profile below under the new names.
+    // The profile below under the new names. Each layer is made from parts of its own.
     pub fn new(table: EventTable, below: P) -> Rename<P>
         ensures names { result.layering.table ≡ table }
         ensures value { result.below ≡ below }
