@@ -19,15 +19,15 @@ use Rattle.book.proofs.Trials.{went_then, stepped_then}
 
 module _ (kinds : ℕ → Option Kind) (station manual : List (Option Rule)) (start : Head) where
   -- two joins
-  pub pair_done : (n : ℕ) (was mid is : List Row) (p : ℕ) (r : Result ℕ Unfit) (k j : ℕ) → n ≤ usable was →
+  pub pair_done : (n : ℕ) (was mid is : List Row) (p q : ℕ) (r : Result (Unit {0}) Unfit) (k j : ℕ) → n ≤ usable was →
       WentOn kinds station manual start (usable was) n was (line_tried kinds station manual start (said (take n was)) (Join k j)) p mid →
-      Stepped kinds station manual start (usable mid) p mid (line_tried kinds station manual start (said (take p mid)) (Join j k)) r is →
-      Stepped kinds station manual start (usable was) n was (pair_tried kinds station manual start (said (take n was)) k j) r is
-  pair_done n was mid is p r k j le a b =
-      stepped_then kinds station manual start n was mid is p r
+      Stepped kinds station manual start (usable mid) p mid (line_tried kinds station manual start (said (take p mid)) (Join j k)) r q is →
+      Stepped kinds station manual start (usable was) n was (pair_tried kinds station manual start (said (take n was)) k j) r q is
+  pair_done n was mid is p q r k j le a b =
+      stepped_then kinds station manual start n was mid is p q r
       (line_tried kinds station manual start (said (take n was)) (Join k j)) (line_tried kinds station manual start (said (take p mid)) (Join j k)) (pair_tried kinds station manual start (said (take n was)) k j)
       a b
-      (λ q some more e f x y l g.
+      (λ some more e f x y l g.
       (let long = ap length e ∙ length-append (said (take n was)) some in (
         subst (λ (z : List AttackRow). Tried kinds station manual start z (Join k j)) (sym f)
             (tried_more kinds station manual start (said (take p mid)) more (Join k j) (omega arith, omega arith) (x refl)),

@@ -99,15 +99,15 @@ module _ (kinds : ℕ → Option Kind) (station manual : List (Option Rule)) (st
       (y (subst (λ (l : List AttackRow). called_for start l h ≡ true) (sym e) (called_for_more start (said (take n was)) some h c))))))
 
   -- one side after the other
-  pub head_done : (n : ℕ) (was mid is : List Row) (p : ℕ) (r : Result ℕ Unfit) (h : Head) →
+  pub head_done : (n : ℕ) (was mid is : List Row) (p q : ℕ) (r : Result (Unit {0}) Unfit) (h : Head) →
       WentOn kinds station manual start (usable was) n was (side_tried kinds station manual start (said (take n was)) Station (length station) h) p mid →
-      Stepped kinds station manual start (usable mid) p mid (side_tried kinds station manual start (said (take p mid)) Manual (length manual) h) r is →
-      Stepped kinds station manual start (usable was) n was (head_tried kinds station manual start (said (take n was)) h) r is
-  head_done n was mid is p r h a b =
-      stepped_then kinds station manual start n was mid is p r
+      Stepped kinds station manual start (usable mid) p mid (side_tried kinds station manual start (said (take p mid)) Manual (length manual) h) r q is →
+      Stepped kinds station manual start (usable was) n was (head_tried kinds station manual start (said (take n was)) h) r q is
+  head_done n was mid is p q r h a b =
+      stepped_then kinds station manual start n was mid is p q r
       (side_tried kinds station manual start (said (take n was)) Station (length station) h) (side_tried kinds station manual start (said (take p mid)) Manual (length manual) h) (head_tried kinds station manual start (said (take n was)) h)
       a b
-      (λ q some more e f x y c.
+      (λ some more e f x y c.
       subst (λ (l : List AttackRow). HeadTried kinds station manual start l h) (sym f)
       (both_sides (said (take p mid) ++ more) h (side_more (said (take p mid)) more Station (length station) h (x c))
       (subst (λ (l : List AttackRow). SideTried kinds station manual start l Manual (length manual) h) f

@@ -14,6 +14,7 @@ pub mod Scanning
 pub mod Offering
 pub mod Drafting
 pub mod Trials
+pub mod Underway
 pub mod Entering
 pub mod Closing
 pub mod Searched

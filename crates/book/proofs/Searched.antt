@@ -1,5 +1,5 @@
 -- What a search leaves of a draft and the lent rows.
-use Rattle.std.proofs.Common.{◌≡◌, ℕ, ◌-◌, min, max, List, length, take, drop, Option, refl, ap, ◌∙◌, subst, arith}
+use Rattle.std.proofs.Common.{◌≡◌, ℕ, ◌-◌, min, max, List, length, take, drop, Option, refl, sym, ap, ◌∙◌, subst, arith}
 use Rattle.profile.specs.declared.Kind.{Kind}
 use Rattle.profile.specs.declared.Rule.{Rule}
 use Rattle.game.specs.declared.Row.{Row}
@@ -44,16 +44,18 @@ module _ (kinds : ℕ → Option Kind) (station manual : List (Option Rule)) (d 
         kept = subst (λ (k : ℕ). drop k is ≡ drop k was) c w.kept;
       }
 
-  pub completes_so : all_tried kinds station manual d.start (said (take p is)) → Completes kinds station manual d was is (record { start = d.start; held = h })
-  completes_so all = record {
-    left = left_so;
-    settled = subst (λ (x : List Row). Settled kinds station manual d.start (usable was) x) held_after
-        (all_tried_settles kinds station manual d.start (usable was) (take p is) all.0 all.1);
-  }
+  -- the rows that the caller has back are those of the search
+  module _ (last : List Row) (same : last ≡ is) where
+    pub completes_so : all_tried kinds station manual d.start (said (take p is)) → Completes kinds station manual d was last (record { start = d.start; held = h })
+    completes_so all = subst (λ (x : List Row). Completes kinds station manual d was x (record { start = d.start; held = h })) (sym same) (record {
+      left = left_so;
+      settled = subst (λ (x : List Row). Settled kinds station manual d.start (usable was) x) held_after
+          (all_tried_settles kinds station manual d.start (usable was) (take p is) all.0 all.1);
+    })
 
-  pub leaves_off_so : Stuck kinds station manual d.start (usable was) (take p is) → LeavesOff kinds station manual d was is (record { start = d.start; held = h }) RowsDoNotFit
-  leaves_off_so stuck = record {
-    left = left_so;
-    refusal = refl;
-    stuck = subst (λ (x : List Row). Stuck kinds station manual d.start (usable was) x) held_after stuck;
-  }
+    pub leaves_off_so : Stuck kinds station manual d.start (usable was) (take p is) → LeavesOff kinds station manual d was last (record { start = d.start; held = h }) RowsDoNotFit
+    leaves_off_so stuck = subst (λ (x : List Row). LeavesOff kinds station manual d was x (record { start = d.start; held = h }) RowsDoNotFit) (sym same) (record {
+      left = left_so;
+      refusal = refl;
+      stuck = subst (λ (x : List Row). Stuck kinds station manual d.start (usable was) x) held_after stuck;
+    })

@@ -1,5 +1,5 @@
 -- Steps of the search, put together.
-use Rattle.std.proofs.Common.{◌≡◌, ℕ, ◌+◌, ◌≤◌, min, Bool, true, false, ltb, List, ◌++◌, length, take, set, Ok, Err, Option, Result, sym, ap, ◌∙◌, subst, arith}
+use Rattle.std.proofs.Common.{◌≡◌, ℕ, ◌+◌, ◌≤◌, min, true, false, ltb, List, ◌++◌, length, take, set, Ok, Err, Option, Result, sym, ap, ◌∙◌, subst, arith}
 use Rattle.std.proofs.lemmas.List.{length-take-le}
 use Rattle.std.proofs.lemmas.Bool.{ltb-true}
 use Rattle.profile.specs.declared.Kind.{Kind}
@@ -20,18 +20,16 @@ use Rattle.book.proofs.Stepping.{stuck_step, idle_step, taken_step}
 
 module _ (kinds : ℕ → Option Kind) (station manual : List (Option Rule)) (start : Head) where
   -- A line offered to the first n rows of memory.
-  module _ (n : ℕ) (was : List Row) (line : Line) (free : Bool) (held : List Row) (inside : n ≤ usable was) (held_are : held ≡ held_rows was n) (free_is : free ≡ ltb n (usable was)) where
-    offered_alike : offer kinds station manual start (ltb (length (take n was)) (usable was)) (said (take n was)) line ≡ offer kinds station manual start free (said held) line
+  module _ (n : ℕ) (was : List Row) (line : Line) (inside : n ≤ usable was) where
+    offered_alike : offer kinds station manual start (ltb (length (take n was)) (usable was)) (said (take n was)) line ≡ offer kinds station manual start (ltb n (usable was)) (said (held_rows was n)) line
     offered_alike =
-        let l : length (take n was) ≡ n = length-take-le n was (omega arith) in
-        let t : take n was ≡ held = sym (held_are ∙ held_take was n inside) in
-        ap (λ (m : ℕ). offer kinds station manual start (ltb m (usable was)) (said (take n was)) line) l ∙
-        (λ i. offer kinds station manual start (sym free_is i) (said (t i)) line)
+        ap (λ (m : ℕ). offer kinds station manual start (ltb m (usable was)) (said (take n was)) line) (length-take-le n was (omega arith)) ∙
+        ap (λ (l : List Row). offer kinds station manual start (ltb n (usable was)) (said l) line) (sym (held_take was n inside))
 
-    pub line_made : (made : Row) → Ok made ≡ and_then (offer kinds station manual start free (said held) line) (λ row. Ok (written row line)) →
+    pub line_made : (made : Row) → Ok made ≡ and_then (offer kinds station manual start (ltb n (usable was)) (said (held_rows was n)) line) (λ row. Ok (written row line)) →
         WentOn kinds station manual start (usable was) n was (line_tried kinds station manual start (said (take n was)) line) (n + 1) (set was n made)
     line_made made e =
-        let w = from_ok line (offer kinds station manual start free (said held) line) made e in
+        let w = from_ok line (offer kinds station manual start (ltb n (usable was)) (said (held_rows was n)) line) made e in
         let o : offer kinds station manual start (ltb (length (take n was)) (usable was)) (said (take n was)) line ≡ Ok w.0 = offered_alike ∙ w.1 in
         let t = taken kinds station manual start (ltb (length (take n was)) (usable was)) (said (take n was)) line w.0 o in
         let room = ltb-true (length (take n was)) (usable was) t.found_free in
@@ -39,9 +37,9 @@ module _ (kinds : ℕ → Option Kind) (station manual : List (Option Rule)) (st
         subst (λ (x : Row). WentOn kinds station manual start (usable was) n was (line_tried kinds station manual start (said (take n was)) line) (n + 1) (set was n x)) (sym w.2)
         (taken_step kinds station manual start (usable was) n was line w.0 (omega arith) (omega arith) o)
 
-    module _ (why : Refusal) (refused : ◌≡◌ {A = Result Row Refusal} (Err why) (and_then (offer kinds station manual start free (said held) line) (λ row. Ok (written row line)))) where
+    module _ (why : Refusal) (refused : ◌≡◌ {A = Result Row Refusal} (Err why) (and_then (offer kinds station manual start (ltb n (usable was)) (said (held_rows was n)) line) (λ row. Ok (written row line)))) where
       refusal_is : offer kinds station manual start (ltb (length (take n was)) (usable was)) (said (take n was)) line ≡ Err why
-      refusal_is = offered_alike ∙ from_err line (offer kinds station manual start free (said held) line) why refused
+      refusal_is = offered_alike ∙ from_err line (offer kinds station manual start (ltb n (usable was)) (said (held_rows was n)) line) why refused
 
       pub line_stuck : stuck_by why ≡ true → GotStuck kinds station manual start (usable was) n was n was
       line_stuck = stuck_step kinds station manual start (usable was) n was line why inside refusal_is
@@ -73,13 +71,13 @@ module _ (kinds : ℕ → Option Kind) (station manual : List (Option Rule)) (st
       let c = subst (λ (k : ℕ). GotStuck kinds station manual start (min 1024 k) p mid q is) a.went.long b in
       record { went = went_on kinds station manual start (usable was) n p q was mid is a.went c.went; stuck = c.stuck }
 
-  pub stepped_then : (n : ℕ) (was mid is : List Row) (p : ℕ) (r : Result ℕ Unfit) (first second done : List AttackRow → Type 0) →
-      WentOn kinds station manual start (usable was) n was first p mid → Stepped kinds station manual start (usable mid) p mid second r is →
-      ((q : ℕ) (some more : List AttackRow) → said (take p mid) ≡ said (take n was) ++ some → said (take q is) ≡ said (take p mid) ++ more →
+  pub stepped_then : (n : ℕ) (was mid is : List Row) (p q : ℕ) (r : Result (Unit {0}) Unfit) (first second done : List AttackRow → Type 0) →
+      WentOn kinds station manual start (usable was) n was first p mid → Stepped kinds station manual start (usable mid) p mid second r q is →
+      ((some more : List AttackRow) → said (take p mid) ≡ said (take n was) ++ some → said (take q is) ≡ said (take p mid) ++ more →
       first (said (take p mid)) → second (said (take q is)) → done (said (take q is))) →
-      Stepped kinds station manual start (usable was) n was done r is
-  stepped_then n was mid is p (Ok q) first second done a b both = went_then n was mid is p q first second done a b (both q)
-  stepped_then n was mid is p (Err u) first second done a b both = stuck_then n was mid is p u.held first a b
+      Stepped kinds station manual start (usable was) n was done r q is
+  stepped_then n was mid is p q (Ok done_so) first second done a b both = went_then n was mid is p q first second done a b both
+  stepped_then n was mid is p q (Err unfit) first second done a b both = stuck_then n was mid is p q first a b
 
   -- what was done is enough
   pub went_for : (n : ℕ) (was is : List Row) (p : ℕ) (done enough : List AttackRow → Type 0) →

@@ -4,6 +4,7 @@ pub mod Offers
 pub mod Rulings
 pub mod Searches
 pub mod Trying
+pub mod Underway
 pub mod Widths
 pub mod Sides
 pub mod Blank

@@ -84,9 +84,9 @@ module _ (kinds : ℕ → Option Kind) (station manual : List (Option Rule)) (st
     pub went : Went kinds station manual start room n was m is
     pub stuck : Stuck kinds station manual start room (take m is)
 
-  abbrev pub Stepped : ℕ → ℕ → List Row → (List AttackRow → Type 0) → Result ℕ Unfit → List Row → Type 0
-  Stepped room n was done (Ok m) is = WentOn room n was done m is
-  Stepped room n was done (Err u) is = GotStuck room n was u.held is
+  abbrev pub Stepped : ℕ → ℕ → List Row → (List AttackRow → Type 0) → Result (Unit {0}) Unfit → ℕ → List Row → Type 0
+  Stepped room n was done (Ok done_so) m is = WentOn room n was done m is
+  Stepped room n was done (Err unfit) m is = GotStuck room n was m is
 
   -- what the parts of the search are for: a line that is called for is tried
   abbrev pub line_tried : List AttackRow → Line → List AttackRow → Type 0

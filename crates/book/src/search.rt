@@ -2,12 +2,13 @@
 ghost use Rattle.std.specs.Prelude.{◌≡◌, ◌≤◌, length, take, None, slice_index_or};
 ghost use Rattle.profile.specs.Kinds.{event_kind};
 ghost use Rattle.game.specs.Members.{row_of};
+ghost use Rattle.game.specs.Computed.{called_for};
 ghost use Rattle.book.specs.Offers.{usable, said};
 ghost use Rattle.book.specs.Sides.{slots_of, rule_at, enter_at, InBytes};
 ghost use Rattle.game.specs.Rows.{head_of_starts};
 ghost use Rattle.book.specs.Drafts.{SearchEnds};
 ghost use Rattle.book.specs.Deciding.{OwnRows, DecidesRightly};
-ghost use Rattle.book.specs.Trying.{stuck_by, Stepped, line_tried, slot_tried, side_tried, head_tried, new_tried, top_tried, tops_tried, pair_tried, all_tried};
+ghost use Rattle.book.specs.Trying.{stuck_by};
 
 use crate::Refusal;
 use crate::held::{is_called_for, usable_rows};
@@ -17,10 +18,17 @@ use crate::state::{Completed, Draft};
 use game::{Head, Line, Row};
 use profile::{Profile, Rule};
 
-// A row is missing that cannot be appended, and so many rows are held.
+// A row is missing that cannot be appended.
 #[derive(Clone, Copy, PartialEq, Eq, Debug)]
-pub(crate) struct Unfit {
-    pub(crate) held: usize,
+struct Unfit;
+
+// A search under way: the sides, the rows that the caller lends, and how many of them are held.
+#[derive(Drop)]
+struct Search<'a, S, M> {
+    sides: &'a Sides<'a, S, M>,
+    rows: &'a mut [Row],
+    held: usize,
+    ghost within: { held ≤ usable rows.now },
 }
 
 // Whether a refusal says that a row is missing that cannot be appended.
@@ -52,9 +60,7 @@ fn enter_line(side: Side, slot: usize, head: Head) -> Line
     }
 }
 
-// Each step tells how many rows are held after it, unless a row is missing that cannot be appended. Rows and count come side by
-// side, and the count's bound with them: the rows are lent by the caller, so that no value here may keep them.
-impl<'a, S: Profile, M: Profile> Sides<'a, S, M> {
+impl<S: Profile, M: Profile> Sides<'_, S, M> {
     // How many slots a side has.
     fn slots(&self, side: Side) -> usize
         ensures { result ≡ length (slots_of (S.Profile.rules self.now.station.now) (M.Profile.rules self.now.manual.now) side) }
@@ -74,130 +80,110 @@ impl<'a, S: Profile, M: Profile> Sides<'a, S, M> {
             Side::Manual => self.manual.slot(slot),
         }
     }
+}
+
+impl<S: Profile, M: Profile> Search<'_, S, M> {
+    ghost use Rattle.book.specs.Underway.{Steps, offered};
+    ghost use Rattle.book.specs.Trying.{line_tried, slot_tried, side_tried, head_tried, new_tried, top_tried, tops_tried, pair_tried, all_tried};
+
+    // A line, offered to the rows that are held. Asked of a `&self`, by which the rows are known to stay as they are.
+    fn offer(&self, line: Line) -> Result<Row, Refusal>
+        ensures { result ≡ offered S.Profile.rules M.Profile.rules self.now line }
+    {
+        self.sides.offer(HeldRows::of(self.rows, self.held), line)
+    }
 
     // Tries a line: the row that it makes is appended where it is new.
-    fn try_line(&self, rows: &mut [Row], count: usize, line: Line) -> Result<usize, Unfit>
-        requires { count ≤ usable rows.old }
-        ensures { let s = S.Profile.rules self.now.station.now in let m = M.Profile.rules self.now.manual.now in Stepped event_kind s m self.now.start (usable rows.old) count rows.old (line_tried event_kind s m self.now.start (said (take count rows.old)) line) result rows.new }
+    fn try_line(&mut self, line: Line) -> Result<(), Unfit>
+        ensures { Steps S.Profile.rules M.Profile.rules self.old (λ s m h before. line_tried event_kind s m h before line) result self.new }
     {
-        match self.offer(HeldRows::of(rows, count), line) {
+        match self.offer(line) {
             Ok(row) => {
-                rows[count] = row;
-                Ok(count + 1)
+                self.rows[self.held] = row;
+                self.held += 1;
+                Ok(())
             }
-            Err(why) if is_stuck(why) => Err(Unfit { held: count }),
-            Err(_) => Ok(count),
+            Err(why) if is_stuck(why) => Err(Unfit),
+            Err(_) => Ok(()),
         }
     }
 
     // Tries the enter from one slot of a side at a head.
-    fn try_slot(
-        &self,
-        rows: &mut [Row],
-        count: usize,
-        head: Head,
-        side: Side,
-        slot: usize,
-    ) -> Result<usize, Unfit>
-        requires { count ≤ usable rows.old }
-        ensures { let s = S.Profile.rules self.now.station.now in let m = M.Profile.rules self.now.manual.now in Stepped event_kind s m self.now.start (usable rows.old) count rows.old (slot_tried event_kind s m self.now.start (said (take count rows.old)) side slot head) result rows.new }
+    fn try_slot(&mut self, head: Head, side: Side, slot: usize) -> Result<(), Unfit>
+        ensures { Steps S.Profile.rules M.Profile.rules self.old (λ s m h before. slot_tried event_kind s m h before side slot head) result self.new }
     {
-        if has_rule_at(side, self.slot(side, slot), head) {
-            self.try_line(rows, count, enter_line(side, slot, head))
+        if has_rule_at(side, self.sides.slot(side, slot), head) {
+            self.try_line(enter_line(side, slot, head))
         } else {
-            Ok(count)
+            Ok(())
         }
     }
 
     // Tries the enters from every slot of a side at a head.
-    fn try_side(
-        &self,
-        rows: &mut [Row],
-        count: usize,
-        head: Head,
-        side: Side,
-    ) -> Result<usize, Unfit>
-        requires { count ≤ usable rows.old }
-        ensures { let s = S.Profile.rules self.now.station.now in let m = M.Profile.rules self.now.manual.now in Stepped event_kind s m self.now.start (usable rows.old) count rows.old (side_tried event_kind s m self.now.start (said (take count rows.old)) side (length (slots_of s m side)) head) result rows.new }
+    fn try_side(&mut self, head: Head, side: Side) -> Result<(), Unfit>
+        ensures { Steps S.Profile.rules M.Profile.rules self.old (λ s m h before. side_tried event_kind s m h before side (length (slots_of s m side)) head) result self.new }
     {
-        let mut held = count;
         // By number: a profile is asked slot by slot.
-        for i in 0..self.slots(side) {
-            held = self.try_slot(rows, held, head, side, i)?;
+        for i in 0..self.sides.slots(side) {
+            self.try_slot(head, side, i)?;
         }
-        Ok(held)
+        Ok(())
     }
 
     // Tries every enter at a head.
-    fn try_head(&self, rows: &mut [Row], count: usize, head: Head) -> Result<usize, Unfit>
-        requires { count ≤ usable rows.old }
-        ensures { let s = S.Profile.rules self.now.station.now in let m = M.Profile.rules self.now.manual.now in Stepped event_kind s m self.now.start (usable rows.old) count rows.old (head_tried event_kind s m self.now.start (said (take count rows.old)) head) result rows.new }
+    fn try_head(&mut self, head: Head) -> Result<(), Unfit>
+        ensures { Steps S.Profile.rules M.Profile.rules self.old (λ s m h before. head_tried event_kind s m h before head) result self.new }
     {
-        let held = self.try_side(rows, count, head, Side::Station)?;
-        self.try_side(rows, held, head, Side::Manual)
+        self.try_side(head, Side::Station)?;
+        self.try_side(head, Side::Manual)
+    }
+
+    // Whether the starts or one of the rows that are done with called for a head. Asked of a `&self` likewise.
+    fn was_called_for(&self, done: usize, head: Head) -> bool
+        requires { done ≤ self.now.held }
+        ensures { result ≡ called_for self.now.sides.now.start (said (take done self.now.rows.now)) head }
+    {
+        is_called_for(self.sides.start, &self.rows[..done], head)
     }
 
     // Tries every enter at a head, unless the starts or one of the rows that are done with called for it.
-    fn try_new_head(
-        &self,
-        rows: &mut [Row],
-        count: usize,
-        done: usize,
-        head: Head,
-    ) -> Result<usize, Unfit>
-        requires count_in { count ≤ usable rows.old }
-        requires done_in { done ≤ count }
-        ensures { let s = S.Profile.rules self.now.station.now in let m = M.Profile.rules self.now.manual.now in Stepped event_kind s m self.now.start (usable rows.old) count rows.old (new_tried event_kind s m self.now.start (said (take count rows.old)) done head) result rows.new }
+    fn try_new_head(&mut self, done: usize, head: Head) -> Result<(), Unfit>
+        requires { done ≤ self.old.held }
+        ensures { Steps S.Profile.rules M.Profile.rules self.old (λ s m h before. new_tried event_kind s m h before done head) result self.new }
     {
-        if is_called_for(self.start, &rows[..done], head) {
-            Ok(count)
+        if self.was_called_for(done, head) {
+            Ok(())
         } else {
-            self.try_head(rows, count, head)
+            self.try_head(head)
         }
     }
 
     // Tries every enter at a top, if there is one.
-    fn try_top(
-        &self,
-        rows: &mut [Row],
-        count: usize,
-        done: usize,
-        top: Option<Head>,
-    ) -> Result<usize, Unfit>
-        requires count_in { count ≤ usable rows.old }
-        requires done_in { done ≤ count }
-        ensures { let s = S.Profile.rules self.now.station.now in let m = M.Profile.rules self.now.manual.now in Stepped event_kind s m self.now.start (usable rows.old) count rows.old (top_tried event_kind s m self.now.start (said (take count rows.old)) done top) result rows.new }
+    fn try_top(&mut self, done: usize, top: Option<Head>) -> Result<(), Unfit>
+        requires { done ≤ self.old.held }
+        ensures { Steps S.Profile.rules M.Profile.rules self.old (λ s m h before. top_tried event_kind s m h before done top) result self.new }
     {
         match top {
-            Some(head) => self.try_new_head(rows, count, done, head),
-            None => Ok(count),
+            Some(head) => self.try_new_head(done, head),
+            None => Ok(()),
         }
     }
 
     // Tries every enter at the tops of the members of a row.
-    fn try_tops(
-        &self,
-        rows: &mut [Row],
-        count: usize,
-        done: usize,
-        row: Row,
-    ) -> Result<usize, Unfit>
-        requires count_in { count ≤ usable rows.old }
-        requires done_in { done ≤ count }
-        ensures { let s = S.Profile.rules self.now.station.now in let m = M.Profile.rules self.now.manual.now in Stepped event_kind s m self.now.start (usable rows.old) count rows.old (tops_tried event_kind s m self.now.start (said (take count rows.old)) done (row_of row)) result rows.new }
+    fn try_tops(&mut self, done: usize, row: Row) -> Result<(), Unfit>
+        requires { done ≤ self.old.held }
+        ensures { Steps S.Profile.rules M.Profile.rules self.old (λ s m h before. tops_tried event_kind s m h before done (row_of row)) result self.new }
     {
         let members = row.members();
-        let mut held = count;
         for m in members {
-            held = self.try_top(rows, held, done, m.top())?;
+            self.try_top(done, m.top())?;
         }
-        Ok(held)
+        Ok(())
     }
 
     // Tries the joins of two rows, both ways round. A row has one join with itself.
-    fn try_pair(&self, rows: &mut [Row], count: usize, k: usize, j: usize) -> Result<usize, Unfit>
-        requires { count ≤ usable rows.old }
-        ensures { let s = S.Profile.rules self.now.station.now in let m = M.Profile.rules self.now.manual.now in Stepped event_kind s m self.now.start (usable rows.old) count rows.old (pair_tried event_kind s m self.now.start (said (take count rows.old)) k j) result rows.new }
+    fn try_pair(&mut self, k: usize, j: usize) -> Result<(), Unfit>
+        ensures { Steps S.Profile.rules M.Profile.rules self.old (λ s m h before. pair_tried event_kind s m h before k j) result self.new }
     {
         let there = Line::Join {
             first: k,
@@ -207,39 +193,32 @@ impl<'a, S: Profile, M: Profile> Sides<'a, S, M> {
             first: j,
             second: k,
         };
-        let held = self.try_line(rows, count, there)?;
-        if k == j {
-            Ok(held)
-        } else {
-            self.try_line(rows, held, back)
-        }
+        self.try_line(there)?;
+        if k == j { Ok(()) } else { self.try_line(back) }
     }
 
     // Appends derivable rows until none is missing, or one that is missing cannot be appended: the enters at the head of
     // the starts, then for each row the enters at the tops of its members and the joins with itself and the rows before it.
-    fn close(&self, rows: &mut [Row], count: usize) -> Result<usize, Unfit>
-        requires { count ≤ usable rows.old }
-        ensures { let s = S.Profile.rules self.now.station.now in let m = M.Profile.rules self.now.manual.now in Stepped event_kind s m self.now.start (usable rows.old) count rows.old (all_tried event_kind s m self.now.start) result rows.new }
+    fn close(&mut self) -> Result<(), Unfit>
+        ensures { Steps S.Profile.rules M.Profile.rules self.old (λ s m h before. all_tried event_kind s m h) result self.new }
     {
-        let mut held = self.try_head(rows, count, self.start)?;
+        self.try_head(self.sides.start)?;
         // By number: rows are appended while the loop runs, so no range and no slice has its end.
         let mut k = 0;
         'search: {
-            while k < held {
-                let row = rows[k];
-                held = match self.try_tops(rows, held, k, row) {
-                    Ok(more) => more,
-                    Err(unfit) => break 'search Err(unfit),
-                };
+            while k < self.held {
+                let row = self.rows[k];
+                if let Err(unfit) = self.try_tops(k, row) {
+                    break 'search Err(unfit);
+                }
                 for j in 0..=k {
-                    held = match self.try_pair(rows, held, k, j) {
-                        Ok(more) => more,
-                        Err(unfit) => break 'search Err(unfit),
-                    };
+                    if let Err(unfit) = self.try_pair(k, j) {
+                        break 'search Err(unfit);
+                    }
                 }
                 k += 1;
             }
-            Ok(held)
+            Ok(())
         }
     }
 }
@@ -264,18 +243,16 @@ impl Draft {
             start,
         };
         let most = usable_rows(rows);
-        match sides.close(rows, self.held.min(most)) {
-            Ok(count) => Ok(Completed {
-                start,
-                held: self.held.max(count),
-            }),
-            Err(unfit) => Err((
-                Draft {
-                    start,
-                    held: self.held.max(unfit.held),
-                },
-                Refusal::RowsDoNotFit,
-            )),
+        let mut search = Search {
+            sides: &sides,
+            rows,
+            held: self.held.min(most),
+        };
+        let closed = search.close();
+        let held = self.held.max(search.held);
+        match closed {
+            Ok(()) => Ok(Completed { start, held }),
+            Err(Unfit) => Err((Draft { start, held }, Refusal::RowsDoNotFit)),
         }
     }
 }
