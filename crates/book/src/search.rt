@@ -31,7 +31,7 @@ struct Search<'a, S, M> {
     ghost within: { held ≤ usable rows.now },
 }
 
-// Whether a refusal says that a row is missing that cannot be appended.
+// Whether a refusal says that a row is missing that cannot be appended. A name of its own: the steps' contracts speak of it.
 fn is_stuck(why: Refusal) -> bool
     ensures { result ≡ stuck_by why }
 {
@@ -60,6 +60,7 @@ fn enter_line(side: Side, slot: usize, head: Head) -> Line
     }
 }
 
+// By cases: the two profiles are of two types.
 impl<S: Profile, M: Profile> Sides<'_, S, M> {
     // How many slots a side has.
     fn slots(&self, side: Side) -> usize
@@ -203,7 +204,7 @@ impl<S: Profile, M: Profile> Search<'_, S, M> {
         ensures { Steps S.Profile.rules M.Profile.rules self.old (λ s m h before. all_tried event_kind s m h) result self.new }
     {
         self.try_head(self.sides.start)?;
-        // By number: rows are appended while the loop runs, so no range and no slice has its end.
+        // By number, since rows are appended while the loop runs; left by a label, a rule of the project for the search.
         let mut k = 0;
         'search: {
             while k < self.held {

@@ -21,7 +21,7 @@ loop-k-preserved g c =
     let forth = c.in_default.ensures.stepped.went.forth in
     let below : c.loop-k.k < c.try_tops.new.self.held = omega arith in
     let tops = steps_then {aim = λ s m h before. RowNext event_kind s m h c.loop-k.k} c.loop-k.invariant c.in_default.ensures
-        (tops_done _ _ _ _ _ _ _ _ _ _ c.loop-k.k (get_or c.loop-k.self.rows.now c.loop-k.k blank_row) blank_row refl c.loop-k-test.true) in
+    (tops_done _ _ _ _ _ _ _ _ _ _ c.loop-k.k (get_or c.loop-k.self.rows.now c.loop-k.k blank_row) blank_row refl c.loop-k-test.true) in
     let aim : Aim = (λ s m h before. pairs_tried event_kind s m h before c.loop-k.k (c.loop-j.j + 1)) in
     elim c.loop-j-test.branch [
       | else-loop-j-test w ↦ rw w.self-is (steps_then tops c.loop-j.invariant

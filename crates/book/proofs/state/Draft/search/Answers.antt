@@ -12,7 +12,7 @@ returns-in-Ok g c =
     let is = c.close-closed.new.self in
     let step = c.in-Ok.ensures.stepped in
     let ends = λ (last : List Row) (e : last ≡ is.rows.now). completes_so event_kind s m c.args.self c.args.rows.now is.rows.now is.held c.usable_rows-most.result c.min.result c.max-held.result c.usable_rows-most.ensures c.min.ensures c.max-held.ensures
-        step.went last e step.goal in
+    step.went last e step.goal in
     record {
       ends = ends _ (search rules);
       decides = λ start_is own. decides event_kind s m (g.S.Profile.origin c.args.station.now) (g.M.Profile.origin c.args.manual.now) (g.met.S.Profile.lawful c.args.station.now) (g.met.M.Profile.lawful c.args.manual.now)
@@ -26,7 +26,7 @@ returns-in-Err g c =
     let is = c.close-closed.new.self in
     let step = c.in-Err.ensures.stepped in
     let ends = λ (last : List Row) (e : last ≡ is.rows.now). leaves_off_so event_kind s m c.args.self c.args.rows.now is.rows.now is.held c.usable_rows-most.result c.min.result c.max-held.result c.usable_rows-most.ensures c.min.ensures c.max-held.ensures
-        step.went last e step.stuck in
+    step.went last e step.stuck in
     record {
       ends = ends _ (search rules);
       decides = λ start_is own. decides event_kind s m (g.S.Profile.origin c.args.station.now) (g.M.Profile.origin c.args.manual.now) (g.met.S.Profile.lawful c.args.station.now) (g.met.M.Profile.lawful c.args.manual.now)
