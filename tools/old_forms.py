@@ -14,7 +14,7 @@ from collections import Counter, defaultdict
 # name: (what it finds, pattern over a line of code)
 LINES = {
     "relays": ("an Err or a None handed on by a match",
-               r"(Err\(\w+\) => (Err\(|return|\{$))|(None => (None|return|false|Ok\(|0,|\{$))"),
+               r"(Err\(\w+\) => (Err\(|return|\{$))|(None => (None|return|false|Ok\(|0,|\{$))|break '\w+ Err"),
     "flags": ("a yes or no in a field, a parameter or a pair",
               r"^\s*(pub(\(crate\))? )?\w+: bool,|, \w+: bool[,)]|\(\w+, bool\)"),
     "codes": ("a number for a case", r"=> \d+,$|\bside: (usize|\d)"),
