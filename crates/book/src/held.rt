@@ -6,7 +6,7 @@ ghost use Rattle.book.specs.Offers.{usable, said, row_eq, held_rows, says_refute
 
 use game::{Head, Member, Row};
 
-// Whether a head is the top of a member.
+// Whether a head is the top of a member. A name of its own: two contracts speak of it.
 pub(crate) fn tops(m: &Member, head: Head) -> bool
     ensures { result ≡ is_top head (top_of m.now) }
 {
@@ -55,7 +55,7 @@ pub(crate) fn usable_rows(rows: &[Row]) -> usize
     rows.len().min(1024)
 }
 
-// Of the rows that are lent, those that are held.
+// Of the rows that are lent, those that are held. Rows and a number: they are lent by the caller to each call.
 pub(crate) fn held_of(rows: &[Row], held: usize) -> &[Row]
     ensures { result.now ≡ held_rows rows.now held }
 {

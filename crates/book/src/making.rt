@@ -98,7 +98,7 @@ impl<'a, S: Profile, M: Profile> Sides<'a, S, M> {
         Ok(row_with(attack.head, &self.reply_members(attack)?, line))
     }
 
-    // A line, offered to the held rows.
+    // A line, offered to the held rows. By cases: an enter asks the profiles, a join does not.
     pub(crate) fn offer(&self, held: HeldRows<'_>, line: Line) -> Result<Row, Refusal>
         ensures { result ≡ and_then (offer event_kind (S.Profile.rules self.now.station.now) (M.Profile.rules self.now.manual.now) self.now.start held.entry.free (said held.entry.rows.now) line) (λ row. Ok (written row line)) }
     {

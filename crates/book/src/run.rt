@@ -86,7 +86,7 @@ impl Book {
     }
 }
 
-// The answer to an offered line.
+// The answer to an offered line. By cases, here and below: which answer stands for which is what is told.
 impl From<Result<usize, Refusal>> for Answer {
     ghost from_gives = { λ told answer. answer ≡ line_answer told };
 
@@ -160,7 +160,7 @@ fn step_draft<S: Profile, M: Profile>(
     }
 }
 
-// A call on a completed book.
+// A call on a completed book. By cases, as on a draft: a call carries its numbers, and each is another method.
 fn step_completed(done: Completed, rows: &[Row], call: Call) -> (Book, Answer)
     ensures { StepsCompleted done rows.now call result.0 result.1 }
 {

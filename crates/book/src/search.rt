@@ -159,7 +159,7 @@ impl<S: Profile, M: Profile> Search<'_, S, M> {
         }
     }
 
-    // Tries every enter at a top, if there is one.
+    // Tries every enter at a top, if there is one. By cases: a closure would have to take the search with it.
     fn try_top(&mut self, done: usize, top: Option<Head>) -> Result<(), Unfit>
         requires { done ≤ self.old.held }
         ensures { Steps S.Profile.rules M.Profile.rules self.old (λ s m h before. top_tried event_kind s m h before done top) result self.new }
@@ -251,6 +251,7 @@ impl Draft {
         };
         let closed = search.close();
         let held = self.held.max(search.held);
+        // By cases: each hands out a book in another state.
         match closed {
             Ok(()) => Ok(Completed { start, held }),
             Err(Unfit) => Err((Draft { start, held }, Refusal::RowsDoNotFit)),

@@ -44,6 +44,7 @@ fn answered(
     ensures { IfOk result (λ s. Ran (reading_of station.now) (reading_of manual.now) script.lend (calls_of script.turns.items) (string_bytes s)) }
 {
     let Script { lend, mut turns } = script;
+    // Memory to lend: a book has none of its own.
     let mut rows = vec![in heap; Row::blank(); lend]?;
     let book = run(station, manual, rows.as_mut_slice(), turns.as_mut_slice());
     let mut out = String::new(heap);

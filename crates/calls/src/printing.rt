@@ -16,7 +16,7 @@ pub fn put_turns(out: &mut String, turns: &[Turn]) -> Result<(), AllocError>
     Ok(())
 }
 
-// How many rows there are, and the line that made each.
+// How many rows there are, and the line that made each: a loop around what `Display` prints.
 pub fn put_rows(out: &mut String, rows: &[Row]) -> Result<(), AllocError>
     ensures { OnOk result (string_bytes out.new ≡ string_bytes out.old ++ rows_text rows.now) }
 {

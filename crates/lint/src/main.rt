@@ -16,6 +16,7 @@ fn run(rt: &HostRuntime) -> anyhow::Result<()> {
     File::open(rt, path.as_str())?
         .take(MOST_READ)
         .read_to_end(&mut text)?;
+    // Memory to lend: a report is written where the caller says.
     let mut told = vec![in rt.alloc(); 0u8; MOST_TOLD]?;
     let n = lint(text.as_slice(), told.as_mut_slice()).ok();
     let report = n

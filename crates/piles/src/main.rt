@@ -15,6 +15,7 @@ const MOST_READ: u64 = 20001;
 
 // Prints the line of a slot with a rule.
 fn show_rule(rt: &HostRuntime, i: usize, rule: &Rule) -> anyhow::Result<()> {
+    // Memory to lend: a line is written where the caller says.
     let mut line = [0u8; 80];
     let told = slot_told(i, rule, &mut line)
         .ok()
