@@ -1,27 +1,14 @@
 -- What was printed so far, and what one more line adds.
-use Rattle.std.proofs.Common.{◌≡◌, ℕ, ◌+◌, ◌<◌, ◌≤◌, List, [], ◌++◌, length, get_or, drop, codes, decimal, sym, refl, ap, ◌∙◌, append_assoc}
+use Rattle.std.proofs.Common.{◌≡◌, ℕ, ◌+◌, ◌<◌, ◌≤◌, List, [], ◌++◌, length, get_or, drop, codes, decimal, sym, ap, ◌∙◌, append_assoc}
 use Rattle.std.proofs.lemmas.List.{append-nil, at_drop_more, at_drop_all}
 use Rattle.text.specs.Report.{line_end}
 use Rattle.game.specs.declared.Line.{Line}
 use Rattle.game.specs.declared.Line.TheVariants as line
 use Rattle.game.specs.declared.Row.{Row}
 use Rattle.game.specs.Printed.{line_shown}
-use Rattle.book.specs.declared.run.Answer.{Answer}
-use Rattle.book.specs.declared.run.Answer.TheVariants as answer
-use Rattle.book.specs.declared.run.Turn.{Turn}
-use Rattle.book.specs.Printed.{answer_shown}
-use Rattle.calls.specs.Printing.{answer_line, turns_text, line_text, lines_text, rows_text}
+use Rattle.calls.specs.Printing.{line_text, lines_text, rows_text}
 
--- what is printed of an answer or a line, and the end of the line
-answer_is : (a : Answer) → answer_shown a ++ line_end ≡ answer_line a
-answer_is (answer.Row n) = refl
-answer_is (answer.Refused why) = refl
-answer_is (answer.Completed n) = refl
-answer_is answer.Refuted = refl
-answer_is answer.Undecided = refl
-answer_is answer.Refines = refl
-answer_is answer.NotOffered = refl
-
+-- what is printed of a line of a book, and the end of the line
 line_is : (l : Line) → line_shown l ++ line_end ≡ line_text l
 line_is (line.Enter a b c d) = simp append_assoc
 line_is (line.Join a b) = simp append_assoc
@@ -33,13 +20,6 @@ put_more so_far is line left more whole e f g =
 
 put_all : (so_far left whole : List ℕ) → left ≡ [] → so_far ++ left ≡ whole → so_far ≡ whole
 put_all so_far left whole e g = sym (append-nil so_far) ∙ ap (λ (l : List ℕ). so_far ++ l) (sym e) ∙ g
-
-pub turn_more : (ts : List Turn) (i : ℕ) (d : Turn) (so_far is whole : List ℕ) → i < length ts → is ≡ so_far ++ (answer_shown (get_or ts i d).answer ++ line_end) → so_far ++ turns_text (drop i ts) ≡ whole → is ++ turns_text (drop (i + 1) ts) ≡ whole
-turn_more ts i d so_far is whole h e g =
-    put_more so_far is (answer_line (get_or ts i d).answer) (turns_text (drop i ts)) (turns_text (drop (i + 1) ts)) whole (e ∙ ap (λ (l : List ℕ). so_far ++ l) (answer_is (get_or ts i d).answer)) (at_drop_more turns_text ts i d h) g
-
-pub turn_all : (ts : List Turn) (i : ℕ) (so_far whole : List ℕ) → length ts ≤ i → so_far ++ turns_text (drop i ts) ≡ whole → so_far ≡ whole
-turn_all ts i so_far whole h g = put_all so_far (turns_text (drop i ts)) whole (at_drop_all turns_text ts i h) g
 
 pub row_more : (rs : List Row) (i : ℕ) (d : Row) (so_far is whole : List ℕ) → i < length rs → is ≡ so_far ++ (line_shown (get_or rs i d).line ++ line_end) → so_far ++ lines_text (drop i rs) ≡ whole → is ++ lines_text (drop (i + 1) rs) ≡ whole
 row_more rs i d so_far is whole h e g =
