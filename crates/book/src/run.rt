@@ -13,7 +13,7 @@ use crate::state::{Completed, Draft};
 use game::Row;
 use profile::Profile;
 
-// A call, in any numbers.
+// A call, in any numbers: a call may give any.
 #[derive(Clone, Copy, PartialEq, Eq, Debug)]
 pub enum Call {
     Enter {
@@ -46,7 +46,7 @@ pub enum Answer {
     NotOffered,
 }
 
-// A call with its answer, and how many rows are held after it.
+// A call with its answer, and how many rows are held after it, of those that the caller lends.
 #[derive(Clone, Copy, PartialEq, Eq, Debug)]
 pub struct Turn {
     pub call: Call,

@@ -204,7 +204,8 @@ impl<S: Profile, M: Profile> Search<'_, S, M> {
         ensures { Steps S.Profile.rules M.Profile.rules self.old (λ s m h before. all_tried event_kind s m h) result self.new }
     {
         self.try_head(self.sides.start)?;
-        // By number, since rows are appended while the loop runs; left by a label, a rule of the project for the search.
+        // By number: rows are appended while the outer loop runs, and a pair is told by its numbers. Left by a label: a rule of the
+        // project for the search (docs/DECISIONS.md).
         let mut k = 0;
         'search: {
             while k < self.held {

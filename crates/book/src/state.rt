@@ -3,7 +3,8 @@ ghost use Rattle.std.specs.Prelude.{◌≡◌};
 
 use game::Head;
 
-// A book that is still being written: the head of the two starts, and how many rows it holds. It cannot be copied.
+// A book that is still being written: the head of the two starts, and how many rows it holds of those that the caller lends to
+// each call. It cannot be copied.
 #[derive(Drop)]
 pub struct Draft {
     pub(crate) start: Head,

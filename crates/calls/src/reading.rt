@@ -145,7 +145,7 @@ fn read_text(heap: Global, text: &[u8]) -> Result<Script, Unread>
     script_of(heap, &mut Reader::new(text))
 }
 
-// Reads a text of calls. No text has two readings.
+// Reads a text of calls. No text has two readings. One call, under a contract that says more than the callee's.
 pub fn read_calls(heap: Global, text: &[u8]) -> Result<Script, Unread>
     ensures value { TextRead text.now result }
     ensures grammar { CallsJudged text.now result }

@@ -132,7 +132,8 @@ pub struct Row {
 }
 
 impl Row {
-    // A row in which nothing is written yet: its numbers are all 0. Any row will do as memory to lend; this is one.
+    // A row in which nothing is written yet: its numbers are all 0, the side among them. Any row will do as memory to lend; this
+    // is one.
     pub fn blank() -> Row
         ensures { result ≡ blank_row }
     {

@@ -4,7 +4,8 @@ ghost use Rattle.std.specs.Prelude.{◌≡◌};
 ghost use Rattle.game.specs.Game.{Position};
 ghost use Rattle.game.specs.Theorems.{DefendingIsRefining, RefinementKeepsAttackerFromWinning, AnyRefinementGivesAYesOrNoOne, EveryProfileRefinesItself};
 
-// A relation between a station's and a manual's configurations: the positions at which it holds.
+// A relation between a station's and a manual's configurations: the positions at which it holds. Not the trait of a set of
+// rows: other theorems speak of each.
 pub trait Relation {
     ghost holds: { Position → Type 0 };
 }

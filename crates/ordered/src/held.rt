@@ -7,7 +7,8 @@ use crate::{Keyed, Unplaced};
 use std::marker::Model;
 
 // At most N elements in places of its own, of which the first `count` are held. Clauses see those, in their order. Places and a
-// count, as `insert` takes them: the kit's vectors of fixed room know no order, so that insertion would be written twice.
+// count, as `insert` takes them, so that one function places in both: in the kit's `ArrayVec` placing would be a second one, under
+// a contract of its own.
 #[derive(Drop)]
 pub struct Held<T: Copy, const N: usize> {
     places: [T; N],
@@ -33,7 +34,8 @@ impl<T: Copy, const N: usize> Held<T, N> {
         }
     }
 
-    // The elements of a slice in their order, if there is room for them; `blank` stands in the places past them.
+    // The elements of a slice in their order, if there is room for them; `blank` stands in the places past them, which are copied
+    // into by the library.
     pub fn copied(blank: T, items: &[T]) -> Option<Held<T, N>>
         ensures { result ≡ (if nat_le (length items.now) N then Some items.now else None) }
     {

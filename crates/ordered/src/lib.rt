@@ -85,7 +85,7 @@ fn admit<T: Keyed>(items: &[T], count: usize, x: &T) -> Result<usize, Unplaced>
     Ok(at)
 }
 
-// Puts `x` at the place `at`, and moves each element from there to the end one place on.
+// Puts `x` at the place `at`, and moves each element from there to the end one place on, in places lent with their count.
 fn shift_in<T: Copy>(items: &mut [T], at: usize, count: usize, x: T)
     requires { (at ≤ count) × (count < length items.old) }
     ensures { items.new ≡ insert (take count items.old) at x ++ drop (count + 1) items.old }
@@ -94,8 +94,8 @@ fn shift_in<T: Copy>(items: &mut [T], at: usize, count: usize, x: T)
     items[at..count + 1].rotate_right(1);
 }
 
-// Inserts `x` among the first `count` of the places and tells where it stands. Those are read as they are;
-// the laws say what ascending ones gain. A double changes nothing and is told before want of room.
+// Inserts `x` among the first `count` of the places and tells where it stands. Places and count are the caller's: others own that
+// memory. Those are read as they are; the laws say what ascending ones gain. A double changes nothing and is told before want of room.
 pub fn insert<T: Keyed + Copy>(items: &mut [T], count: usize, x: T) -> Result<usize, Unplaced>
     ensures answer { result ≡ insert_answer (by_key T.Keyed.key T.Keyed.le) x count items.old }
     ensures after { items.new ≡ insert_after (by_key T.Keyed.key T.Keyed.le) x count items.old result }

@@ -111,6 +111,7 @@ impl Rule {
     }
 }
 
+// The key is an array, always full. Ordered by `Keyed`, for the reason beside that trait.
 impl Keyed for Rule {
     type Key = [u8; 6];
 

@@ -46,7 +46,7 @@ pub(crate) fn position(names: &[&[u8]], name: &[u8]) -> Option<usize>
     names.iter().position(|n| *n == name)
 }
 
-// Reads `n` names, none of them twice.
+// Reads `n` names, none of them twice: the text says how many.
 fn name_list<'a, const N: usize>(reader: &mut Reader<'a>, n: usize) -> Result<Names<'a, N>, Fault>
     requires { n ≤ N }
     ensures { named result reader.new ≡ more_names n [] reader.old }

@@ -120,7 +120,7 @@ impl Vocabulary<'_> {
         Ok((rule, place))
     }
 
-    // Takes `n` rules into a table, none of them twice, the mode aside.
+    // Takes `n` rules into a table, none of them twice, the mode aside: the text says how many.
     fn rule_list(&self, reader: &mut Reader<'_>, n: usize) -> Result<Table, Fault>
         requires { n ≤ 96 }
         ensures { table_listed result reader.new ≡ more_rules self.now.states self.now.symbols event_names n [] reader.old }
@@ -128,8 +128,8 @@ impl Vocabulary<'_> {
         let mut table = Table::new();
         for _ in 0..n {
             let (rule, place) = self.rule(reader)?;
-            // The rule is lawful and there is room, so that only a double is refused. By `is_err`: before a `?` the fault
-            // would need its type written out.
+            // The rule is lawful and there is room, so that only a double is refused. By `is_err`: which refusal it was is not
+            // asked, and a closure before a `?` would only drop it.
             if table.add(rule).is_err() {
                 return Err(Fault::new(ProfileCause::RuleTwice, place));
             }
@@ -190,7 +190,8 @@ fn read_into(text: &[u8], profile: &mut Table) -> Result<(), Fault>
     Ok(())
 }
 
-// Reads a profile text into a table that the caller holds. A fault leaves the table as it was.
+// Reads a profile text into a table that the caller holds. A fault leaves the table as it was. One call, under a contract that
+// says more than the callee's.
 pub fn read_profile(text: &[u8], profile: &mut Table) -> Result<(), Fault>
     ensures value { ReadInto text.now result profile.old profile.new }
     ensures grammar { Judged text.now result profile.new }

@@ -94,7 +94,8 @@ impl Told for Fault {
     }
 }
 
-// Writes the line of a refusal, whichever layer found the fault. Tells how many bytes that is.
+// Writes the line of a refusal, whichever layer found the fault. Tells how many bytes that is. One call, under a contract in the
+// words of a refusal.
 pub fn write_fault(fault: &Fault, out: &mut [u8]) -> Result<usize, TooFewBytes>
     ensures answer { result ≡ write_answer (refusal_line fault.now) out.old }
     ensures after { out.new ≡ write_after (refusal_line fault.now) out.old }

@@ -35,7 +35,7 @@ fn renames(events: &[u8; 12]) -> bool
 }
 
 impl EventTable {
-    // The table in which event e becomes `events[e]`. A refused table costs nothing but itself.
+    // The table in which event e becomes `events[e]`, an entry for each. A refused table costs nothing but itself.
     pub fn new(events: [u8; 12]) -> Result<EventTable, NotRenaming>
         ensures answer { renaming_told result ≡ renaming_answer events }
         ensures judged { RenamingJudged events result }
