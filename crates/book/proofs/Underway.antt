@@ -3,7 +3,7 @@ use Rattle.std.proofs.Common.{List, take, Ok, Err, Option, Result, ◌∙◌, su
 use Rattle.profile.specs.declared.Rule.{Rule}
 use Rattle.profile.specs.Kinds.{event_kind}
 use Rattle.book.specs.declared.search.Unfit.{Unfit}
-use Rattle.book.specs.declared.search.Search.{Search}
+use Rattle.book.specs.declared.running.Search.{Search}
 use Rattle.book.specs.Offers.{usable, said}
 use Rattle.book.specs.Trying.{Stepped}
 use Rattle.book.specs.Underway.{Aim, Steps}

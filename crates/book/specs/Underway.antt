@@ -8,7 +8,7 @@ use Rattle.game.specs.declared.Row.{Row}
 use Rattle.game.specs.Members.{AttackRow}
 use Rattle.book.specs.declared.Refusal.{Refusal}
 use Rattle.book.specs.declared.search.Unfit.{Unfit}
-use Rattle.book.specs.declared.search.Search.{Search}
+use Rattle.book.specs.declared.running.Search.{Search}
 use Rattle.book.specs.Offers.{and_then, usable, held_rows, said, offer, written}
 use Rattle.book.specs.Trying.{Stepped}
 

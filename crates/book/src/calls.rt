@@ -11,7 +11,7 @@ use crate::Refusal;
 use crate::held::{held_of, tell_refuted};
 use crate::making::{HeldRows, Sides};
 use crate::state::{Completed, Draft};
-use game::{Head, Line, Pair, Row};
+use game::{Head, Pair, Row};
 use profile::Profile;
 
 // What a draft answers.
@@ -82,13 +82,7 @@ impl Draft {
             manual,
             start: self.start,
         };
-        let line = Line::Enter {
-            side,
-            slot,
-            state,
-            symbol,
-        };
-        let row = sides.offer(HeldRows::of(rows, self.held), line)?;
+        let row = sides.offer_enter(HeldRows::of(rows, self.held), side, slot, state, symbol)?;
         Ok(self.append(rows, row))
     }
 

@@ -14,6 +14,7 @@ mod printed;
 mod reply;
 pub mod rulings;
 pub mod run;
+mod running;
 mod search;
 pub mod state;
 mod width;

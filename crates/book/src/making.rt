@@ -3,7 +3,7 @@ ghost use Rattle.std.specs.Prelude.{◌≡◌, List, Ok, Option, nat_lt};
 ghost use Rattle.profile.specs.declared.Rule.{Rule};
 ghost use Rattle.profile.specs.Kinds.{event_kind};
 ghost use Rattle.game.specs.declared.Head.{Head};
-ghost use Rattle.game.specs.declared.Line.TheVariants.{Join};
+ghost use Rattle.game.specs.declared.Line.TheVariants.{Enter, Join};
 ghost use Rattle.game.specs.Rows.{entered};
 ghost use Rattle.book.specs.Offers.{and_then, usable, held_rows, said, row_at, offer, written};
 ghost use Rattle.book.specs.Sides.{player};
@@ -98,6 +98,31 @@ impl<'a, S: Profile, M: Profile> Sides<'a, S, M> {
         Ok(row_with(attack.head, &self.reply_members(attack)?, line))
     }
 
+    // An enter, offered to the held rows.
+    pub(crate) fn offer_enter(
+        &self,
+        held: HeldRows<'_>,
+        side: usize,
+        slot: usize,
+        state: usize,
+        symbol: usize,
+    ) -> Result<Row, Refusal>
+        ensures { result ≡ and_then (offer event_kind (S.Profile.rules self.now.station.now) (M.Profile.rules self.now.manual.now) self.now.start held.entry.free (said held.entry.rows.now) (Enter side slot state symbol)) (λ row. Ok (written row (Enter side slot state symbol))) }
+    {
+        let line = Line::Enter {
+            side,
+            slot,
+            state,
+            symbol,
+        };
+        let attack = self.attack(side, slot, state, symbol)?;
+        if is_called_for(self.start, held.rows, attack.head) {
+            held.if_new(self.attack_row(attack, line)?)
+        } else {
+            Err(Refusal::HeadNotCalledFor)
+        }
+    }
+
     // A line, offered to the held rows. By cases: an enter asks the profiles, a join does not.
     pub(crate) fn offer(&self, held: HeldRows<'_>, line: Line) -> Result<Row, Refusal>
         ensures { result ≡ and_then (offer event_kind (S.Profile.rules self.now.station.now) (M.Profile.rules self.now.manual.now) self.now.start held.entry.free (said held.entry.rows.now) line) (λ row. Ok (written row line)) }
@@ -108,14 +133,7 @@ impl<'a, S: Profile, M: Profile> Sides<'a, S, M> {
                 slot,
                 state,
                 symbol,
-            } => {
-                let attack = self.attack(side, slot, state, symbol)?;
-                if is_called_for(self.start, held.rows, attack.head) {
-                    held.if_new(self.attack_row(attack, line)?)
-                } else {
-                    Err(Refusal::HeadNotCalledFor)
-                }
-            }
+            } => self.offer_enter(held, side, slot, state, symbol),
             Line::Join { first, second } => held.offer_join(first, second),
         }
     }

@@ -14,6 +14,7 @@ use crate::Refusal;
 use crate::held::{is_called_for, usable_rows};
 use crate::making::{HeldRows, Sides};
 use crate::reply::Side;
+use crate::running::Search;
 use crate::state::{Completed, Draft};
 use game::{Head, Line, Row};
 use profile::{Profile, Rule};
@@ -21,15 +22,6 @@ use profile::{Profile, Rule};
 // A row is missing that cannot be appended.
 #[derive(Clone, Copy, PartialEq, Eq, Debug)]
 struct Unfit;
-
-// A search under way: the sides, the rows that the caller lends, and how many of them are held.
-#[derive(Drop)]
-struct Search<'a, S, M> {
-    sides: &'a Sides<'a, S, M>,
-    rows: &'a mut [Row],
-    held: usize,
-    ghost within: { held ≤ usable rows.now },
-}
 
 // Whether a refusal says that a row is missing that cannot be appended. A name of its own: the steps' contracts speak of it.
 fn is_stuck(why: Refusal) -> bool

@@ -1,6 +1,6 @@
 use Rattle.book.proofs.Underway.{steps_then}
 use Rattle.book.proofs.Closing.{pair_done}
-use Rattle.book.proofs.search.Search.try_pair.Goals as goal
+use Rattle.book.proofs.running.Search.try_pair.Goals as goal
 
 pub returns-else-k-j : goal.returns-else-k-j
 returns-else-k-j g c =

@@ -1,7 +1,7 @@
 use Rattle.std.proofs.lemmas.Result.{err_from_is_err_and}
 use Rattle.book.proofs.Underway.{steps_stuck, steps_then}
 use Rattle.book.proofs.Entering.{side_goes_on}
-use Rattle.book.proofs.search.Search.try_side.Goals as goal
+use Rattle.book.proofs.running.Search.try_side.Goals as goal
 
 pub returns-in_err-try_slot : goal.returns-in_err-try_slot
 returns-in_err-try_slot g c =

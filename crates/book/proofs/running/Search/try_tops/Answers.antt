@@ -3,7 +3,7 @@ use Rattle.std.proofs.lemmas.Result.{err_from_is_err_and}
 use Rattle.game.specs.Members.{row_of}
 use Rattle.book.proofs.Underway.{steps_stuck, steps_then, steps_for}
 use Rattle.book.proofs.Entering.{members_go_on, members_end}
-use Rattle.book.proofs.search.Search.try_tops.Goals as goal
+use Rattle.book.proofs.running.Search.try_tops.Goals as goal
 
 pub returns-in_err-try_top : goal.returns-in_err-try_top
 returns-in_err-try_top g c =

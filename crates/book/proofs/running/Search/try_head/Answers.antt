@@ -1,6 +1,6 @@
 use Rattle.book.proofs.Underway.{steps_then}
 use Rattle.book.proofs.Entering.{head_done}
-use Rattle.book.proofs.search.Search.try_head.Goals as goal
+use Rattle.book.proofs.running.Search.try_head.Goals as goal
 
 pub returns : goal.returns
 returns g c =

@@ -5,8 +5,8 @@ use Rattle.book.specs.Trying.{pairs_tried, all_tried}
 use Rattle.book.specs.Underway.{Aim}
 use Rattle.book.proofs.Underway.{steps_then, steps_stuck}
 use Rattle.book.proofs.Closing.{RowNext, pairs_go_on, tops_done, row_done, all_done}
-use Rattle.book.proofs.search.Search.close.Goals as goal
-use Rattle.book.proofs.search.Search.close.Goals.{else-loop-j-test, then-loop-j-test+in_default-try_pair+else-j-k}
+use Rattle.book.proofs.running.Search.close.Goals as goal
+use Rattle.book.proofs.running.Search.close.Goals.{else-loop-j-test, then-loop-j-test+in_default-try_pair+else-j-k}
 
 all : Aim
 all s m h before = all_tried event_kind s m h

@@ -1,7 +1,7 @@
 use Rattle.std.proofs.Common.{refl}
 use Rattle.book.proofs.Trials.{went_still}
 use Rattle.book.proofs.Entering.{known_head}
-use Rattle.book.proofs.search.Search.try_new_head.Goals as goal
+use Rattle.book.proofs.running.Search.try_new_head.Goals as goal
 
 pub returns-then-was_called_for : goal.returns-then-was_called_for
 returns-then-was_called_for g c = record {

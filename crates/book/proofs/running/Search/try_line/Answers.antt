@@ -1,6 +1,6 @@
 use Rattle.std.proofs.Common.{refl, rules}
 use Rattle.book.proofs.Trials.{line_made, line_stuck, line_idle}
-use Rattle.book.proofs.search.Search.try_line.Goals as goal
+use Rattle.book.proofs.running.Search.try_line.Goals as goal
 
 pub returns-in-Ok : goal.returns-in-Ok
 returns-in-Ok g c = record {

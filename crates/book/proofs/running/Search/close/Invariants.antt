@@ -4,7 +4,7 @@ use Rattle.book.specs.Offers.{usable}
 use Rattle.book.specs.Trying.{pairs_tried}
 use Rattle.book.specs.Underway.{Steps}
 use Rattle.book.proofs.Closing.{done_to}
-use Rattle.book.proofs.search.Search.close.Given as goal
+use Rattle.book.proofs.running.Search.close.Given as goal
 
 abbrev pub invariant-loop-j : goal.invariant-loop-j
 invariant-loop-j g l = Steps g.S.Profile.rules g.M.Profile.rules l.initial.self (λ s m h before. pairs_tried event_kind s m h before l.k l.j) (Ok tt) l.self
