@@ -99,8 +99,10 @@ impl Keyed for Member {
 
     ghost total = { member_total };
 
+    // By `cmp`, which takes less time than `<=` on slices.
     fn at_most(&self, other: &Member) -> bool {
-        self.numbers().as_slice() <= other.numbers().as_slice()
+        let own = self.numbers();
+        own.as_slice().cmp(&other.numbers().as_slice()).is_le()
     }
 }
 
