@@ -3,7 +3,7 @@ ghost use Rattle.std.specs.Prelude.{◌≡◌, ◌≤◌, length, take, None, sl
 ghost use Rattle.profile.specs.Kinds.{event_kind};
 ghost use Rattle.game.specs.Members.{row_of};
 ghost use Rattle.game.specs.Computed.{called_for};
-ghost use Rattle.book.specs.Offers.{usable, said};
+ghost use Rattle.book.specs.Offers.{said};
 ghost use Rattle.book.specs.Sides.{slots_of, rule_at, enter_at, InBytes};
 ghost use Rattle.game.specs.Rows.{head_of_starts};
 ghost use Rattle.book.specs.Drafts.{SearchEnds};
